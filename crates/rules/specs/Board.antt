@@ -7,6 +7,7 @@ use lib.ListN.{length}
 use Rattle.rules.specs.Ascending.{insert}
 use Rattle.rules.specs.Device.{Meaning, horizon}
 use Rattle.rules.specs.I8259.{Pair, standing-pair, drive-lines, vector, acknowledged, requests, read-chip, write-chip}
+use Rattle.rules.specs.declared.queued.QueuedWrite.{QueuedWrite}
 use Rattle.rules.specs.declared.refusal.Refusal.{Refusal}
 use Rattle.rules.specs.declared.refusal.Refusal.the-variants.{LongAdvance, PastEnd, BadTick, QueueFull}
 
@@ -16,12 +17,6 @@ pub record Fitting (A B C D : Type 0) : Type 0 where
   pub kind-1 : Meaning B
   pub kind-2 : Meaning C
   pub kind-3 : Meaning D
-
--- A write of a byte to a port that waits for its tick.
-pub record QueuedWrite : Type 0 where
-  pub tick : ℕ
-  pub port : ℕ
-  pub byte : ℕ
 
 -- Writes are ordered by tick, then port, then byte.
 abbrev pub precedes : QueuedWrite → QueuedWrite → Bool

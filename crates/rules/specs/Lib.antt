@@ -6,3 +6,4 @@ pub mod Refusals
 pub mod Board
 pub mod Trace
 pub mod Examples
+pub mod TickLaws

@@ -1,8 +1,10 @@
 // The rules of the board: the definitions stand in specs/, and the code here is what the other crates share of them.
 ghost use Rattle.rules.specs.Examples.{Worked-examples};
 
+pub mod queued;
 pub mod refusal;
 
+pub use queued::QueuedWrite;
 pub use refusal::Layer;
 pub use refusal::Refusal;
 
