@@ -155,43 +155,44 @@ module _ {A B C D : Type 0} (f : Fitting A B C D) where
       (cond (matches first-port-2 (f .kind-2 .width) port) (at-slot-2 (port - first-port-2))
       (cond (matches first-port-3 (f .kind-3 .width) port) (at-slot-3 (port - first-port-3)) open-bus)))))
 
-  -- The byte that a read of a port gives; an open bus reads FFh.
+  -- A read at what a port reaches: the byte, and the board after it. An open bus reads FFh.
+  abbrev pub byte-at : Target → Board A B C D → ℕ
+  byte-at (master o) b = read-chip o (b .pair .master)
+  byte-at (slave o) b = read-chip o (b .pair .slave)
+  byte-at (at-slot-0 o) b = f .kind-0 .byte-read (b .slot-0) o
+  byte-at (at-slot-1 o) b = f .kind-1 .byte-read (b .slot-1) o
+  byte-at (at-slot-2 o) b = f .kind-2 .byte-read (b .slot-2) o
+  byte-at (at-slot-3 o) b = f .kind-3 .byte-read (b .slot-3) o
+  byte-at open-bus b = 255
+
+  abbrev pub after-read-at : Target → Board A B C D → Board A B C D
+  after-read-at (master o) b = b
+  after-read-at (slave o) b = b
+  after-read-at (at-slot-0 o) b = with-slots (f .kind-0 .after-read (b .slot-0) o) (b .slot-1) (b .slot-2) (b .slot-3) b
+  after-read-at (at-slot-1 o) b = with-slots (b .slot-0) (f .kind-1 .after-read (b .slot-1) o) (b .slot-2) (b .slot-3) b
+  after-read-at (at-slot-2 o) b = with-slots (b .slot-0) (b .slot-1) (f .kind-2 .after-read (b .slot-2) o) (b .slot-3) b
+  after-read-at (at-slot-3 o) b = with-slots (b .slot-0) (b .slot-1) (b .slot-2) (f .kind-3 .after-read (b .slot-3) o) b
+  after-read-at open-bus b = b
+
+  -- A write at what a port reaches. An open bus ignores it.
+  abbrev pub after-write-at : Target → ℕ → Board A B C D → Board A B C D
+  after-write-at (master o) v b = with-pair (record { master = write-chip o v (b .pair .master); slave = b .pair .slave }) b
+  after-write-at (slave o) v b = with-pair (record { master = b .pair .master; slave = write-chip o v (b .pair .slave) }) b
+  after-write-at (at-slot-0 o) v b = with-slots (f .kind-0 .after-write (b .slot-0) o v) (b .slot-1) (b .slot-2) (b .slot-3) b
+  after-write-at (at-slot-1 o) v b = with-slots (b .slot-0) (f .kind-1 .after-write (b .slot-1) o v) (b .slot-2) (b .slot-3) b
+  after-write-at (at-slot-2 o) v b = with-slots (b .slot-0) (b .slot-1) (f .kind-2 .after-write (b .slot-2) o v) (b .slot-3) b
+  after-write-at (at-slot-3 o) v b = with-slots (b .slot-0) (b .slot-1) (b .slot-2) (f .kind-3 .after-write (b .slot-3) o v) b
+  after-write-at open-bus v b = b
+
+  -- An access of a port.
   abbrev pub byte-read : ℕ → Board A B C D → ℕ
-  byte-read port b =
-      elim (target port) [
-        | master o ↦ read-chip o (b .pair .master)
-        | slave o ↦ read-chip o (b .pair .slave)
-        | at-slot-0 o ↦ f .kind-0 .byte-read (b .slot-0) o
-        | at-slot-1 o ↦ f .kind-1 .byte-read (b .slot-1) o
-        | at-slot-2 o ↦ f .kind-2 .byte-read (b .slot-2) o
-        | at-slot-3 o ↦ f .kind-3 .byte-read (b .slot-3) o
-        | open-bus ↦ 255
-      ]
+  byte-read port b = byte-at (target port) b
 
   abbrev pub after-read : ℕ → Board A B C D → Board A B C D
-  after-read port b =
-      elim (target port) [
-        | master o ↦ b
-        | slave o ↦ b
-        | at-slot-0 o ↦ with-slots (f .kind-0 .after-read (b .slot-0) o) (b .slot-1) (b .slot-2) (b .slot-3) b
-        | at-slot-1 o ↦ with-slots (b .slot-0) (f .kind-1 .after-read (b .slot-1) o) (b .slot-2) (b .slot-3) b
-        | at-slot-2 o ↦ with-slots (b .slot-0) (b .slot-1) (f .kind-2 .after-read (b .slot-2) o) (b .slot-3) b
-        | at-slot-3 o ↦ with-slots (b .slot-0) (b .slot-1) (b .slot-2) (f .kind-3 .after-read (b .slot-3) o) b
-        | open-bus ↦ b
-      ]
+  after-read port b = after-read-at (target port) b
 
-  -- A write of a byte to a port; an open bus ignores it.
   abbrev pub after-write : ℕ → ℕ → Board A B C D → Board A B C D
-  after-write port byte b =
-      elim (target port) [
-        | master o ↦ with-pair (record { master = write-chip o byte (b .pair .master); slave = b .pair .slave }) b
-        | slave o ↦ with-pair (record { master = b .pair .master; slave = write-chip o byte (b .pair .slave) }) b
-        | at-slot-0 o ↦ with-slots (f .kind-0 .after-write (b .slot-0) o byte) (b .slot-1) (b .slot-2) (b .slot-3) b
-        | at-slot-1 o ↦ with-slots (b .slot-0) (f .kind-1 .after-write (b .slot-1) o byte) (b .slot-2) (b .slot-3) b
-        | at-slot-2 o ↦ with-slots (b .slot-0) (b .slot-1) (f .kind-2 .after-write (b .slot-2) o byte) (b .slot-3) b
-        | at-slot-3 o ↦ with-slots (b .slot-0) (b .slot-1) (b .slot-2) (f .kind-3 .after-write (b .slot-3) o byte) b
-        | open-bus ↦ b
-      ]
+  after-write port v b = after-write-at (target port) v b
 
   -- Time goes up by one and each device ticks.
   abbrev pub devices-ticked : Board A B C D → Board A B C D

@@ -1,0 +1,2 @@
+pub mod Pulse
+pub mod State

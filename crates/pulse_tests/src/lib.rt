@@ -1,0 +1,3 @@
+// Examples of the pulse generator.
+#[cfg(test)]
+mod tests;
