@@ -41,7 +41,7 @@ module _ (level : ℕ → Bool) where
   standing-byte : (x : ℕ) → x < 256 → ((j : ℕ) → j < 8 → bit x j ≡ level j) → x ≡ inputs-below 8 level
   standing-byte x h bits =
       same-byte x (inputs-below 8 level) h (standing-small 8 (omega arith))
-        (λ j hj. bits j hj ∙ sym (standing-bit 8 j (omega arith) hj ∙ ap (λ t. cond t (level j) false) (lt-ltb j 8 hj)))
+      (λ j hj. bits j hj ∙ sym (standing-bit 8 j (omega arith) hj ∙ ap (λ t. cond t (level j) false) (lt-ltb j 8 hj)))
 
 pub lines-stand : (lines : ℕ) (master slave : Chip) → lines < 65536
     → master ≡ standing (master-levels lines false) → slave ≡ standing (slave-levels lines)
@@ -49,8 +49,8 @@ pub lines-stand : (lines : ℕ) (master slave : Chip) → lines < 65536
 lines-stand lines master slave h m s =
     let low : master-levels lines false < 256 = omega (arith, and-le-l (lines % 256) (255 - 2 ^ 2)) in
     let m′ : master-levels lines false ≡ inputs-below 8 (λ l. cond (eqb l cascade-input) false (bit lines l)) =
-      standing-byte (λ l. cond (eqb l cascade-input) false (bit lines l)) (master-levels lines false) low (λ j hj. master-bit lines j false hj) in
+    standing-byte (λ l. cond (eqb l cascade-input) false (bit lines l)) (master-levels lines false) low (λ j hj. master-bit lines j false hj) in
     let s′ : slave-levels lines ≡ inputs-below 8 (λ i. cond (eqb (8 + i) cascade-input) false (bit lines (8 + i))) =
-      standing-byte (λ i. cond (eqb (8 + i) cascade-input) false (bit lines (8 + i))) (slave-levels lines) (omega arith)
-        (λ j hj. slave-bit lines j ∙ rw (ne-eqb (8 + j) 2 (omega arith))) in
+    standing-byte (λ i. cond (eqb (8 + i) cascade-input) false (bit lines (8 + i))) (slave-levels lines) (omega arith)
+    (λ j hj. slave-bit lines j ∙ rw (ne-eqb (8 + j) 2 (omega arith))) in
     λ i. record { master = (m ∙ ap standing m′) i; slave = (s ∙ ap standing s′) i }

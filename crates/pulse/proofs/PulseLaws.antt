@@ -139,11 +139,11 @@ flipped false = true≢false
 -- The level stays until the count runs out, and flips there.
 pub pulse-announces : (p : Counting) → p .running ≡ true → 1 ≤ p .count → p .count ≤ 65536 → Announces pulse-generator p (Some (p .count))
 pulse-announces p on some few = (
-      some,
-      omega arith,
-      (λ j early. ap (λ q. q .high) (ticks-within j p on early)),
-      (λ same. flipped (p .high) (sym (ap (λ q. q .high) (ticks-out p on some)) ∙ same)),
-    )
+  some,
+  omega arith,
+  (λ j early. ap (λ q. q .high) (ticks-within j p on early)),
+  (λ same. flipped (p .high) (sym (ap (λ q. q .high) (ticks-out p on some)) ∙ same)),
+)
 
 pub flips-each-reload : Flips-every-reload
 flips-each-reload p byte n some on = ap (λ q. q .high) (ticks-fresh n (started p byte) on some refl)

@@ -1,0 +1,5 @@
+pub mod Called
+pub mod Carrying
+pub mod Fresh
+pub mod Stillness
+pub mod Surveyed

@@ -1,0 +1,4 @@
+pub mod Answers
+pub mod Steps
+pub mod View
+pub mod Survey

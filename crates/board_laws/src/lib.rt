@@ -1,0 +1,1 @@
+// Laws of the tick board: why time may jump. They stand in specs/.
