@@ -1,7 +1,7 @@
 -- The worked examples hold. What has no variable is computed; the rest is an induction over ticks.
-use Rattle.std.proofs.Common.{◌≡◌, ℕ, zero, suc, ◌+◌, ◌<◌, ◌≤◌, Bool, true, false, cond, ltb, Some, None, sym, refl, ap, ◌∙◌, subst, add-zero, add-suc, arith, lt-ltb}
-use Rattle.rules.specs.Device.{Meaning, ticks, Announces, Divided, divided, divider_tick}
-use Rattle.rules.specs.I8254.{Timer, timer, mode_0, low_then_high, power_on_channel, down}
+use Rattle.std.proofs.Common.{◌≡◌, ℕ, zero, suc, ◌+◌, ◌<◌, ◌≤◌, true, false, cond, Some, None, sym, refl, ap, ◌∙◌, add-zero, arith, lt-ltb}
+use Rattle.rules.specs.Device.{Meaning, ticks, Announces, divided, divider_tick}
+use Rattle.rules.specs.I8254.{Timer, mode_0, low_then_high, power_on_channel, down}
 use Rattle.std.specs.Fmt.{digits}
 use Rattle.rules.specs.Ascending.{insert}
 use Rattle.rules.specs.I8259.{first_from, drive_below, inputs_below}

@@ -1,5 +1,5 @@
 -- The worked examples, as one statement about the rules.
-use Rattle.std.specs.Prelude.{◌≡◌, ℕ, ◌≤◌, Bool, true, false, ◌||◌, List, [], ◌∷◌, map, Some, None, codes, Option, ◌==◌}
+use Rattle.std.specs.Prelude.{◌≡◌, ℕ, ◌≤◌, Bool, true, false, ◌||◌, List, [], ◌∷◌, map, Some, codes, ◌==◌}
 use Rattle.rules.specs.Device.{Meaning, ticks, Announces, Divided, divided}
 use Rattle.rules.specs.I8254.{Timer, timer, write_timer, power_on_timer}
 use Rattle.rules.specs.Trace.{printed}

@@ -1,5 +1,5 @@
 -- The 8254 timer, one tick at a time. Gates are high for ever; there is no read-back and no decimal counting.
-use Rattle.std.specs.Prelude.{ℕ, zero, suc, ◌+◌, ◌-◌, ◌*◌, ◌/◌, ◌%◌, Bool, true, false, cond, not, ◌&&◌, ◌||◌, List, [], ◌∷◌, Some, None, Option, ◌==◌, slice_index_or}
+use Rattle.std.specs.Prelude.{ℕ, zero, suc, ◌+◌, ◌-◌, ◌*◌, ◌/◌, ◌%◌, Bool, true, false, cond, not, ◌&&◌, ◌||◌, [], ◌∷◌, Some, None, Option, ◌==◌, slice_index_or}
 use Rattle.rules.specs.Device.{Meaning}
 
 -- Which bytes of a count are written and read: the low one alone, the high one alone, or the low one and then the high one.

@@ -1,6 +1,6 @@
 -- The 8259A interrupt controller and the cascaded pair. Registers are bytes; bit i belongs to input i.
 -- There is no automatic end of interrupt, poll, special mask, special nesting or level triggering.
-use Rattle.std.specs.Prelude.{ℕ, zero, suc, ◌+◌, ◌-◌, ◌/◌, ◌%◌, ◌^◌, Bool, true, false, cond, not, ◌&&◌, Some, None, Option, ◌==◌, bit_and, bit_or, nat_eq, nat_lt}
+use Rattle.std.specs.Prelude.{ℕ, zero, suc, ◌+◌, ◌-◌, ◌/◌, ◌%◌, ◌^◌, Bool, true, false, cond, Some, None, Option, ◌==◌, bit_and, bit_or, nat_eq, nat_lt}
 
 -- Bit i of a register, and the register with bit i set or cleared.
 abbrev pub bit : ℕ → ℕ → Bool

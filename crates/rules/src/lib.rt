@@ -1,4 +1,6 @@
 // The rules of the board: the definitions stand in specs/, and the code here is what the other crates share of them.
+#![tactic(auto)]
+
 ghost use Rattle.rules.specs.Examples.{WorkedExamples};
 
 pub mod queued;
