@@ -1,8 +1,7 @@
 // A device that lets another one tick at a fraction of its own rate.
 ghost use Rattle.std.specs.Prelude.{◌≡◌, ◌+◌, ◌*◌, ◌/◌, ◌%◌, ◌<◌, ◌≤◌, Some};
 ghost use Rattle.rules.specs.Device.{Divided, divide, divided, horizon};
-ghost use Rattle.rules.specs.TickLaws.{divided_announcement};
-ghost use Rattle.std.proofs.Common.{rules, arith};
+ghost use Rattle.rules.specs.TickLaws.{divided_announcement, divided_lawful};
 
 use crate::device::{Device, HORIZON};
 
@@ -64,8 +63,6 @@ impl<D: Device> Device for Divider<D> {
 
     ghost state = { λ d. record { factor = d.factor; phase = d.phase; inner = D.Device.state d.inner } };
 
-    ghost lawful = { first_of (Prim.search rules, Prim.grind (arith, Self.row.coded.inj)) };
-
     fn ports() -> u16 {
         D::ports()
     }
@@ -95,4 +92,6 @@ impl<D: Device> Device for Divider<D> {
     fn write(&mut self, offset: u16, byte: u8) {
         self.inner.write(offset, byte);
     }
+
+    ghost lawful = { divided_lawful D.Device.meaning D.Device.lawful };
 }

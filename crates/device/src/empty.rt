@@ -1,6 +1,6 @@
 // The device of a slot that holds nothing.
 ghost use Rattle.rules.specs.Device.{empty_device};
-ghost use Rattle.std.proofs.Common.{rules};
+ghost use Rattle.rules.specs.TickLaws.{empty_lawful};
 
 use crate::device::Device;
 
@@ -15,8 +15,6 @@ impl Device for Empty {
     ghost meaning = { empty_device };
 
     ghost state = { λ _. tt };
-
-    ghost lawful = { Prim.search rules };
 
     fn ports() -> u16 {
         Self::WIDTH
@@ -37,4 +35,6 @@ impl Device for Empty {
     }
 
     fn write(&mut self, _offset: u16, _byte: u8) {}
+
+    ghost lawful = { empty_lawful };
 }

@@ -14,6 +14,6 @@ skipped m s n k q r inner below limit quotient remainder skips =
 pub returns : goal.returns
 returns g c =
     skipped g.D.Device.meaning _ _ _ _ _ _ c.args.self.now.bounded.2 c.min-n.ensures
-    c.quotient-and-remainder-inner-ticks.ensures.quotient
-    c.quotient-and-remainder-inner-ticks.ensures.remainder
+    c.quotient_and_remainder-inner_ticks.ensures.quotient
+    c.quotient_and_remainder-inner_ticks.ensures.remainder
     c.skip.ensures
