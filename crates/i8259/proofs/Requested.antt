@@ -1,6 +1,6 @@
 -- The rules' request is the request in terms of bits and ranks.
 -- Assumes nothing.
-use Rattle.std.proofs.Common.{◌≡◌, ℕ, ◌-◌, ◌<◌, ◌≤◌, Bool, true, false, cond, not, ◌&&◌, ltb, Some, None, Option, sym, refl, ap, ◌∙◌, subst, arith}
+use Rattle.std.proofs.Common.{◌≡◌, ℕ, ◌-◌, ◌<◌, Bool, true, false, cond, not, ◌&&◌, ltb, Some, None, Option, sym, refl, ap, ◌∙◌, subst, arith}
 use lib.Bits.{bit_and}
 use Rattle.std.proofs.lemmas.Bool.{and_parts, and_from, not-true, both_ways, ltb-true, ltb-false}
 use Rattle.rules.specs.I8259.{bit, rank, first, Chip, initialised, request}

@@ -1,4 +1,6 @@
 // The 8259A interrupt controller and the cascaded pair of the board, proved against the rules' definitions.
+#![tactic(auto)]
+
 mod bits;
 pub mod chip;
 pub mod pair;

@@ -5,5 +5,5 @@ use Rattle.i8259.proofs.pair.Pair.drive.Goals as goal
 
 pub returns : goal.returns
 returns c =
-    lines_driven c.args.lines (pair_view c.args.self.now) (view c.drive-all.new.self) (view c.drive-all-2.new.self) c.requests.result
+    lines_driven c.args.lines (pair_view c.args.self.now) (view c.drive_all.new.self) (view c.drive_all-2.new.self) c.requests.result
     (search rules) (search rules) (search rules)
