@@ -1,5 +1,5 @@
 -- How a port lies to the first of some ports.
-use Rattle.std.specs.Prelude.{ℕ, ◌-◌, Bool, cond, Some, None, Option, ◌==◌}
+use Rattle.std.specs.Prelude.{ℕ, ◌-◌, cond, Some, None, Option, ◌==◌}
 use Rattle.rules.specs.Board.{matches}
 use Rattle.i8259.specs.declared.chip.Offset.{Offset}
 use Rattle.i8259.specs.declared.chip.Offset.TheVariants.{Zero, One}

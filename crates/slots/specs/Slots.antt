@@ -2,7 +2,6 @@
 use Rattle.std.specs.Prelude.{◌≡◌, ℕ, ◌+◌, ◌<◌, ◌≤◌, Bool, false, List, [], ◌∷◌, Some, None, Option, slice_index_or}
 use Rattle.rules.specs.Device.{ticks, horizon}
 use Rattle.rules.specs.Board as rules
-use Rattle.i8259.specs.declared.chip.Offset.{Offset}
 use Rattle.i8259.specs.Views.{offset}
 use Rattle.slots.specs.declared.fitted.Target.{Target}
 use Rattle.slots.specs.declared.fitted.Target.TheVariants.{Master, Slave, Slot0, Slot1, Slot2, Slot3, OpenBus}
