@@ -1,1 +1,3 @@
+#![tactic(auto)]
+
 // Laws of the tick board: why time may jump. They stand in specs/.
