@@ -1,4 +1,6 @@
 // An agenda: entries wait in nodes that the caller lends, and leave in ascending order.
+#![tactic(auto)]
+
 ghost use Rattle.std.specs.Prelude.{◌≡◌, ◌+◌, ◌*◌, ◌/◌, ◌<◌, ◌≤◌, Bool, true, false, [], ◌∷◌, length, drop, MatchOption, nat_lt, slice_set};
 ghost use Rattle.agenda.specs.Nodes.{usable, held, heaped, Earliest};
 ghost use Rattle.agenda.specs.Waiting.{waiting, first_of, Ready, Unchanged, Kept};

@@ -1,6 +1,6 @@
 // Pending writes wait in an agenda, by tick, then port, then byte.
 ghost use Rattle.rules.specs.Board.{precedes};
-ghost use Rattle.std.proofs.Common.{rules};
+ghost use Rattle.agenda.specs.Writes.{precedes_irreflexive, precedes_transitive, precedes_total};
 
 use crate::Entry;
 use rules::QueuedWrite;
@@ -8,11 +8,11 @@ use rules::QueuedWrite;
 impl Entry for QueuedWrite {
     ghost before = { precedes };
 
-    ghost irreflexive = { Prim.search rules };
+    ghost irreflexive = { precedes_irreflexive };
 
-    ghost transitive = { Prim.search rules };
+    ghost transitive = { precedes_transitive };
 
-    ghost total = { Prim.search rules };
+    ghost total = { precedes_total };
 
     fn precedes(self, other: QueuedWrite) -> bool {
         if self.tick != other.tick {

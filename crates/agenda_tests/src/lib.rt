@@ -1,6 +1,8 @@
 // Tests of an agenda with two kinds of entry.
+#![tactic(auto)]
+
 ghost use Rattle.agenda_tests.specs.Orders.{write_before, deadline_before};
-ghost use Rattle.std.proofs.Common.{rules};
+ghost use Rattle.agenda_tests.specs.Laws.{write_irreflexive, write_transitive, write_total, deadline_irreflexive, deadline_transitive, deadline_total};
 
 use agenda::Entry;
 
@@ -18,11 +20,11 @@ pub struct QueuedWrite {
 impl Entry for QueuedWrite {
     ghost before = { write_before };
 
-    ghost irreflexive = { Prim.search rules };
+    ghost irreflexive = { write_irreflexive };
 
-    ghost transitive = { Prim.search rules };
+    ghost transitive = { write_transitive };
 
-    ghost total = { Prim.search rules };
+    ghost total = { write_total };
 
     fn precedes(self, other: QueuedWrite) -> bool {
         if self.tick != other.tick {
@@ -44,11 +46,11 @@ pub struct Deadline {
 impl Entry for Deadline {
     ghost before = { deadline_before };
 
-    ghost irreflexive = { Prim.search rules };
+    ghost irreflexive = { deadline_irreflexive };
 
-    ghost transitive = { Prim.search rules };
+    ghost transitive = { deadline_transitive };
 
-    ghost total = { Prim.search rules };
+    ghost total = { deadline_total };
 
     fn precedes(self, other: Deadline) -> bool {
         if self.tick != other.tick {

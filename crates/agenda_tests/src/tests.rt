@@ -70,7 +70,7 @@ fn writes_leave_in_order(rt: HostRuntime) {
         *entry = some_write(i as u64);
     }
     let mut sorted = entries;
-    sorted.sort();
+    sorted.sort_unstable();
     let mut nodes = [some_write(0); 300];
     assert!(rt; passes(&mut nodes, &entries, &sorted), "mixed");
     assert!(rt; passes(&mut nodes, &sorted, &sorted), "ascending");
@@ -139,7 +139,7 @@ fn many_nodes(rt: HostRuntime) {
     }
     let mut sorted = [some_deadline(0); 4096];
     sorted.copy_from_slice(&entries[0..4096]);
-    sorted.sort();
+    sorted.sort_unstable();
     let unused = Deadline {
         tick: u64::MAX,
         slot: 7,

@@ -14,7 +14,7 @@ loop-at-init g c = sink_begins (order g) c.args.sinking c.args.len c.args.nodes.
 pub loop-at-preserved : goal.loop-at-preserved
 loop-at-preserved g c =
     let l = c.loop-at in
-    let child = c.earliest-child-child in
+    let child = c.earliest_child-child in
     let below = c.index-nodes-child in
     sink_steps (order g) c.args.sinking c.args.len c.args.nodes.now l.nodes l.at child.result below.result (omega arith) child.ensures.child.0 child.ensures.child.1 child.ensures.child.2 child.ensures.earliest below.is c.if-not-precedes.ensures l.invariant
 
@@ -26,7 +26,7 @@ returns g c =
       heap = elim c.loop-at-test.branch [
         | else-loop-at-test w ↦ sink_leaves (order g) c.args.sinking c.args.len c.args.nodes.now l.nodes l.at long (omega (arith, w.loop-at-test.false)) l.invariant
         | then-loop-at-test+then-not-precedes w ↦
-            let child = w.earliest-child-child in
+            let child = w.earliest_child-child in
             let below = w.index-nodes-child in
             sink_rests (order g) c.args.sinking c.args.len c.args.nodes.now l.nodes l.at child.result below.result long child.ensures.child.2 child.ensures.earliest below.is w.if-not-precedes.ensures l.invariant
       ];

@@ -12,8 +12,8 @@ raise-requires g c =
     let room = c.if-len-capacity.false in
     record { room = omega arith; heap = sound_heaped g.E.Entry.before self.nodes.now self.len c.requires }
 
-pub overflow-add-self : goal.overflow-add-self
-overflow-add-self g c =
+pub overflow_add-self : goal.overflow_add-self
+overflow_add-self g c =
     let self = c.args.self.now in
     let within = sound_within g.E.Entry.before self.nodes.now self.len c.requires in
     search rules

@@ -34,8 +34,8 @@ bounds-self-0 g c =
     let within = sound_within g.E.Entry.before self.nodes.now self.len c.requires in
     search rules
 
-pub offset-bounds-self-len : goal.offset-bounds-self-len
-offset-bounds-self-len g c =
+pub offset_bounds-self-len : goal.offset_bounds-self-len
+offset_bounds-self-len g c =
     let self = c.args.self.now in
     let within = sound_within g.E.Entry.before self.nodes.now self.len c.requires in
     search rules
