@@ -1,4 +1,6 @@
 // A device of one's own, and what dividers do over it.
+#![tactic(auto)]
+
 pub mod square_wave;
 #[cfg(test)]
 mod tests;

@@ -1,7 +1,7 @@
 // A square wave: a device whose level turns again and again. Its half is set at its only port.
 ghost use Rattle.std.specs.Prelude.{◌≡◌, ◌+◌, ◌<◌, ◌≤◌, false};
 ghost use Rattle.device_tests.specs.Wave.{Wave, square_wave, turned_times};
-ghost use Rattle.std.proofs.Common.{rules, arith};
+ghost use Rattle.device_tests.specs.Ports.{wave_lawful};
 
 use device::{Device, HORIZON};
 
@@ -44,8 +44,6 @@ impl Device for SquareWave {
 
     ghost state = { λ w. record { half = w.half; elapsed = w.elapsed; high = w.high } };
 
-    ghost lawful = { first_of (Prim.search rules, Prim.grind (arith, Self.row.coded.inj)) };
-
     fn ports() -> u16 {
         Self::WIDTH
     }
@@ -77,4 +75,6 @@ impl Device for SquareWave {
             *self = SquareWave::new(byte);
         }
     }
+
+    ghost lawful = { wave_lawful };
 }

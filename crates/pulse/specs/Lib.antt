@@ -1,2 +1,3 @@
+pub mod Ports
 pub mod Pulse
 pub mod State

@@ -1,3 +1,5 @@
+#![tactic(auto)]
+
 // Examples of the pulse generator.
 #[cfg(test)]
 mod tests;

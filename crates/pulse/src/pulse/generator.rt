@@ -2,7 +2,7 @@
 ghost use Rattle.std.specs.Prelude.{◌≡◌, ◌≤◌};
 ghost use Rattle.pulse.specs.Pulse.{Counting, pulse_generator, power_on, reload_set, flips, FlipsEveryReload};
 ghost use Rattle.pulse.specs.State.{state_of};
-ghost use Rattle.std.proofs.Common.{rules, arith};
+ghost use Rattle.pulse.specs.Ports.{pulse_lawful};
 
 use crate::pulse::Pulse;
 use device::{Device, HORIZON};
@@ -54,8 +54,6 @@ impl Device for Pulse {
     ghost meaning = { pulse_generator };
 
     ghost state = { state_of };
-
-    ghost lawful = { first_of (Prim.search rules, Prim.grind (arith, Self.row.coded.inj)) };
 
     fn ports() -> u16 {
         Self::WIDTH
@@ -110,4 +108,6 @@ impl Device for Pulse {
             _ => {}
         }
     }
+
+    ghost lawful = { pulse_lawful };
 }
