@@ -1,5 +1,5 @@
 -- Steps that the proofs of the calls share.
-use Rattle.std.proofs.Common.{◌≡◌, ℕ, ◌-◌, ◌<◌, ◌≤◌, min, Bool, true, false, ◌&&◌, ltb, leb, List, length, drop, sym, refl, ap, ◌∙◌, subst, ap₂, le-ltb, lt-ltb, le-leb}
+use Rattle.std.proofs.Common.{◌≡◌, ℕ, ◌-◌, ◌<◌, ◌≤◌, min, Bool, true, false, ◌&&◌, ltb, leb, List, length, drop, ap, ◌∙◌, subst, ap₂, le-ltb, lt-ltb, le-leb}
 use Rattle.agenda.specs.Nodes.{usable}
 use Rattle.agenda.specs.Waiting.{Kept}
 use Rattle.agenda.specs.declared.Agenda.{Agenda}

@@ -1,7 +1,7 @@
 -- One due write, and the front of the bag.
-use Rattle.std.proofs.Common.{◌≡◌, ℕ, ◌+◌, Bool, List, [], ◌∷◌, Some, None, Option, sym, refl, ap, ◌∙◌, subst, ap₂, arith, MatchOption}
+use Rattle.std.proofs.Common.{◌≡◌, ℕ, ◌+◌, List, [], ◌∷◌, Some, None, Option, sym, ap, ◌∙◌, ap₂, arith, MatchOption}
 use Rattle.agenda.specs.Waiting.{first_of}
-use Rattle.rules.specs.Board.{Board, Fitting, carry_out, hand, levels, edges_between, after_write, after_write_at, target, with_pending}
+use Rattle.rules.specs.Board.{Board, Fitting, carry_out, hand, levels, edges_between, after_write, target, with_pending}
 use Rattle.rules.specs.declared.queued.QueuedWrite.{QueuedWrite}
 use Rattle.board_laws.specs.Jump.{NoneDue, counted, carry_due, write_keeps_bag}
 

@@ -1,5 +1,5 @@
 -- Four levels that are the same one by one are the same.
-use Rattle.std.proofs.Common.{◌≡◌, ℕ, ◌<◌, Bool, false, List, [], ◌∷◌, get_or, ap₂, arith}
+use Rattle.std.proofs.Common.{◌≡◌, ℕ, ◌<◌, false, [], ◌∷◌, get_or, arith}
 use Rattle.rules.specs.Board.{Fitting}
 use Rattle.slots.specs.Slots.{States, levels_of}
 

@@ -1,5 +1,5 @@
 -- What the code's board stands for: the tick board of the rules.
-use Rattle.std.specs.Prelude.{◌≡◌, ℕ, Bool, List}
+use Rattle.std.specs.Prelude.{◌≡◌}
 use Rattle.rules.specs.Board as rules
 use Rattle.agenda.specs.Nodes.{usable}
 use Rattle.agenda.specs.Waiting.{waiting, Kept}

@@ -1,4 +1,4 @@
-use Rattle.std.proofs.Common.{◌≡◌, ◌+◌, ◌-◌, ◌*◌, ◌≤◌, sym, refl, ap, ◌∙◌, subst, arith}
+use Rattle.std.proofs.Common.{◌≡◌, ◌+◌, ◌-◌, ◌≤◌, sym, refl, ap, ◌∙◌, subst, arith}
 use Rattle.agenda.specs.Nodes.{usable}
 use Rattle.agenda.proofs.Heaps.{sound_within}
 use Rattle.rules.specs.Board.{precedes, tick_times}

@@ -3,7 +3,6 @@ use Rattle.rules.specs.I8259.{bit, drive_lines}
 use Rattle.rules.specs.Board.{lines, on_line, edges_between}
 use Rattle.board_laws.specs.Driving.{drive_lines_same}
 use Rattle.board_laws.specs.Jump.{rewired}
-use Rattle.i8259.specs.Views.{pair_view}
 use Rattle.board.specs.View.{view}
 use Rattle.board.proofs.board.Board.hand_over.Goals as goal
 

@@ -1,8 +1,7 @@
-use Rattle.std.proofs.Common.{◌≡◌, ℕ, min, Bool, false, cond, eqb, List, length, sym, refl, ap, ◌∙◌, ap₂, arith}
+use Rattle.std.proofs.Common.{◌≡◌, min, false, cond, eqb, length, ap, ◌∙◌, arith}
 use Rattle.agenda.specs.Nodes.{usable}
-use Rattle.rules.specs.I8259.{Pair, bit, standing_pair, cascade_input}
-use Rattle.rules.specs.Board.{Board, lines, on_line, most_nodes}
-use Rattle.rules.specs.declared.queued.QueuedWrite.{QueuedWrite}
+use Rattle.rules.specs.I8259.{bit, standing_pair, cascade_input}
+use Rattle.rules.specs.Board.{lines, on_line, most_nodes}
 use Rattle.slots.specs.Slots.{levels_of}
 use Rattle.board.proofs.Fresh.{standing_same, cascade_low}
 use Rattle.board.proofs.board.Board.new.Goals as goal
@@ -28,7 +27,7 @@ returns g c =
         slot_2 = s.slot_2;
         slot_3 = s.slot_3;
         handed = same_levels i;
-        pair = (c.with-inputs.ensures ∙ stands ∙ ap (λ vs. standing_pair (on_line lines vs)) same_levels) i;
+        pair = (c.with_inputs.ensures ∙ stands ∙ ap (λ vs. standing_pair (on_line lines vs)) same_levels) i;
         pending = c.new.ensures.empty i;
         nodes = size i;
       };

@@ -21,7 +21,7 @@ returns-then-insert g c =
     record {
       same =
           ap₂ (λ ws n. answered done (with_bag before ws n)) (found.inserted refl) (ap (min 4096) found.kept.number)
-          ∙ sym (queue_taken f c.args.write before c.if-write-self.false c.if-write-gt-END-OF-TIME.false fits);
+          ∙ sym (queue_taken f c.args.write before c.if-write-self.false c.if-write-gt-END_OF_TIME.false fits);
       nodes = found.kept;
     }
 
@@ -39,6 +39,6 @@ returns-else-insert g c =
     record {
       same =
           ap₂ (λ ws n. answered (refused QueueFull) (with_bag before ws n)) (ap₂ (held precedes) left.nodes left.len) (ap (min 4096) found.kept.number)
-          ∙ sym (queue_full f c.args.write before c.if-write-self.false c.if-write-gt-END-OF-TIME.false full);
+          ∙ sym (queue_full f c.args.write before c.if-write-self.false c.if-write-gt-END_OF_TIME.false full);
       nodes = found.kept;
     }

@@ -1,5 +1,5 @@
 use Rattle.std.proofs.Common.{ap, ◌∙◌, ap₂}
-use Rattle.rules.specs.Board.{Target, byte_given, byte_at, after_read_at, hand}
+use Rattle.rules.specs.Board.{byte_given, byte_at, after_read_at, hand}
 use Rattle.board.specs.View.{view}
 use Rattle.board.proofs.Called.{answered, kept_same}
 use Rattle.board.proofs.board.Board.read.Goals as goal
@@ -12,7 +12,7 @@ returns g c =
     record {
       same =
           ap₂ (λ v b. answered (byte_given v) b)
-          (c.read-target-byte.ensures.byte ∙ ap (λ t. byte_at f t before) reached)
-          (c.hand-over.ensures.board ∙ ap (hand f) (c.read-target-byte.ensures.board ∙ ap (λ t. after_read_at f t before) reached));
-      nodes = kept_same _ _ (c.hand-over.ensures.queue ∙ c.read-target-byte.ensures.queue);
+          (c.read_target-byte.ensures.byte ∙ ap (λ t. byte_at f t before) reached)
+          (c.hand_over.ensures.board ∙ ap (hand f) (c.read_target-byte.ensures.board ∙ ap (λ t. after_read_at f t before) reached));
+      nodes = kept_same _ _ (c.hand_over.ensures.queue ∙ c.read_target-byte.ensures.queue);
     }

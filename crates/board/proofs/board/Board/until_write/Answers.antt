@@ -1,12 +1,12 @@
-use Rattle.std.proofs.Common.{◌≡◌, ◌+◌, ◌-◌, ◌<◌, ◌≤◌, arith}
+use Rattle.std.proofs.Common.{◌+◌, arith}
 use Rattle.board.specs.View.{view}
 use Rattle.board.proofs.Carrying.{none_first, other_first}
 use Rattle.board.proofs.board.Board.until_write.Goals as goal
 
-pub returns-in-default : goal.returns-in-default
-returns-in-default g c =
+pub returns-in_default : goal.returns-in_default
+returns-in_default g c =
     let b = view g.F.Slots.states c.args.self.now in
-    record { some = c.requires; most = omega arith; idle = λ i low high. none_first (b.time + i) b.pending c.in-default.ensures }
+    record { some = c.requires; most = omega arith; idle = λ i low high. none_first (b.time + i) b.pending c.in_default.ensures }
 
 pub returns-then-write-self : goal.returns-then-write-self
 returns-then-write-self g c =

@@ -11,7 +11,7 @@ returns g c =
     record {
       same =
           ap (answered done)
-          (c.hand-over.ensures.board
-          ∙ ap (hand f) (c.write-target.ensures.board ∙ ap (λ t. after_write_at f t c.args.byte before) c.target.ensures));
-      nodes = kept_same _ _ (c.hand-over.ensures.queue ∙ c.write-target.ensures.queue);
+          (c.hand_over.ensures.board
+          ∙ ap (hand f) (c.write_target.ensures.board ∙ ap (λ t. after_write_at f t c.args.byte before) c.target.ensures));
+      nodes = kept_same _ _ (c.hand_over.ensures.queue ∙ c.write_target.ensures.queue);
     }
