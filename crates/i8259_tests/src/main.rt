@@ -2,6 +2,8 @@
 //
 // The script is the file stdin, and the file stdout is what the datasheet and the rules say of it. The table of OCW2 and
 // the walks at its end come from a second model, written from the rules and not from this code.
+#![tactic(auto)]
+
 mod bench;
 mod script;
 
