@@ -1,4 +1,6 @@
 // Runs the trace on standard input, and prints its lines to standard output.
+#![tactic(auto)]
+
 ghost use Rattle.std.specs.Prelude.{◌≤◌, length, IfOk};
 
 use std::io::{Read, Write};
@@ -28,7 +30,7 @@ fn fill(input: &mut impl Read, buffer: &mut [u8]) -> io::Result<usize>
 // Says why nothing was run, and ends with a failure.
 fn refuse(rt: &HostRuntime, why: &str) -> anyhow::Result<()> {
     rt.eprintln(why)?;
-    Err(why.into())
+    Err(anyhow::Error::msg(why))
 }
 
 fn main(rt: HostRuntime) -> anyhow::Result<()> {

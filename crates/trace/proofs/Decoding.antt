@@ -6,7 +6,7 @@ use Rattle.std.proofs.lemmas.Bool.{ne_eqb, cond-false}
 use Rattle.std.specs.List.{between}
 use Rattle.rules.specs.declared.refusal.Refusal.{Refusal}
 use Rattle.rules.specs.declared.refusal.Refusal.TheVariants.{UnknownKind}
-use Rattle.rules.specs.Trace.{Record, advance, read, write, acknowledge, queue, note, big_endian, big_endian_from, decode, sized, noted}
+use Rattle.rules.specs.Trace.{Record, advance, read, write, queue, big_endian, big_endian_from, decode, sized}
 
 -- what `omega` needs for the tests of a slice pattern
 pub ruleset tests = (arith, ltb-true, ltb-false, eqb-true, eqb-false)

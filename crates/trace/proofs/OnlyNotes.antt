@@ -1,5 +1,5 @@
 -- A run of notes does not depend on what other records do.
-use Rattle.std.proofs.Common.{◌≡◌, ℕ, zero, suc, ◌+◌, ◌-◌, ◌<◌, ◌≤◌, Bool, true, false, ◌&&◌, ltb, List, [], ◌∷◌, ◌++◌, length, drop, sym, refl, ap, ◌∙◌, inl, inr, arith, length-drop}
+use Rattle.std.proofs.Common.{◌≡◌, ℕ, zero, suc, ◌+◌, ◌-◌, ◌≤◌, Bool, true, false, ◌&&◌, ltb, List, [], ◌∷◌, ◌++◌, length, drop, sym, refl, ap, ◌∙◌, inl, inr, arith, length-drop}
 use Rattle.std.proofs.lemmas.Bool.{false≢true, cases_Bool}
 use Rattle.rules.specs.Trace.{Record, advance, read, write, acknowledge, queue, note, Performed, Next, at_end, fault, got, next, run_from, run_lines, note_line, on_board, standard, standard_board, printed}
 use Rattle.rules.specs.declared.refusal.Refusal.{Refusal}
@@ -7,7 +7,7 @@ use Rattle.trace.specs.declared.reader.Reader.{Reader}
 use Rattle.trace.specs.Notes.{is_note, notes_from, only_notes, bare}
 use Rattle.trace.specs.Performing.{performed}
 use Rattle.trace.specs.Reading.{whole, left, moved, well_started}
-use Rattle.trace.proofs.Running.{turn, turned, next_nil, moves_on, run_refused, run_started}
+use Rattle.trace.proofs.Running.{turn, next_nil, moves_on, run_refused, run_started}
 
 abbrev checked : List ℕ → Bool → Bool
 checked trace b = elim b [ true ↦ notes_from (length (drop 1 trace)) (drop 1 trace) | false ↦ true ]

@@ -1,8 +1,8 @@
 -- What is encoded reads back.
-use Rattle.std.proofs.Common.{◌≡◌, ℕ, zero, suc, ◌+◌, ◌-◌, ◌*◌, ◌/◌, ◌%◌, ◌^◌, ◌<◌, ◌≤◌, Bool, true, false, cond, List, [], ◌∷◌, ◌++◌, length, take, drop, Ok, Err, Result, sym, refl, ap, ◌∙◌, ap₂, inl, inr, pow-suc, arith, length-append}
+use Rattle.std.proofs.Common.{◌≡◌, ℕ, zero, suc, ◌+◌, ◌*◌, ◌/◌, ◌%◌, ◌^◌, ◌<◌, ◌≤◌, List, [], ◌∷◌, ◌++◌, length, take, drop, Ok, Err, Result, sym, refl, ap, ◌∙◌, ap₂, inl, inr, pow-suc, arith, length-append}
 use Rattle.std.proofs.lemmas.List.{take_at, drop_at, drop-drop}
 use Rattle.std.proofs.lemmas.Bool.{le-leb, cases_lt}
-use Rattle.rules.specs.Trace.{Record, advance, read, write, acknowledge, queue, note, big_endian, big_endian_from, decode, Next, at_end, fault, got, next, counted_record}
+use Rattle.rules.specs.Trace.{Record, advance, read, write, acknowledge, queue, note, big_endian, big_endian_from, decode, got, next, counted_record}
 use Rattle.rules.specs.declared.refusal.Refusal.{Refusal}
 use Rattle.trace.proofs.Reading.{counted_cut, counted_bad, counted_got}
 use Rattle.trace.specs.Encoding.{in_bytes, counted, encoded, encode, Fitting, AllFitting, Gives, ReadsBack}

@@ -1,5 +1,5 @@
 -- Traces that need no board.
-use Rattle.std.specs.Prelude.{ℕ, zero, suc, Bool, true, false, ◌&&◌, List, [], ◌∷◌, length, drop}
+use Rattle.std.specs.Prelude.{◌≡◌, ℕ, zero, suc, Bool, true, false, ◌&&◌, List, [], ◌∷◌, length, drop, refl}
 use Rattle.rules.specs.Trace.{Record, advance, read, write, acknowledge, queue, note, Performed, at_end, fault, got, next, access_line, vector_line, note_line, refusal_line}
 use Rattle.rules.specs.declared.refusal.Refusal.TheVariants.{PastEnd, QueueFull}
 use Rattle.trace.specs.Performing.{performed}
@@ -31,3 +31,7 @@ bare (write port byte) place u = performed (access_line 87 port byte) u
 bare acknowledge place u = performed (vector_line 255) u
 bare (queue tick port byte) place u = performed (refusal_line QueueFull place) u
 bare (note text) place u = performed (note_line text) u
+
+-- The machine with nothing on it only prints a note.
+pub bare_notes : (text : List ℕ) (place : ℕ) (s : Unit {0}) → bare (note text) place s ≡ performed (note_line text) s
+bare_notes text place s = refl

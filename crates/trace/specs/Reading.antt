@@ -1,5 +1,5 @@
 -- A reader's place in its trace, and what it says there in the rules' words.
-use Rattle.std.specs.Prelude.{ℕ, ◌+◌, Bool, true, false, ◌&&◌, List, [], ◌∷◌, length, drop, ◌==◌, nat_lt}
+use Rattle.std.specs.Prelude.{ℕ, ◌+◌, Bool, false, ◌&&◌, List, [], ◌∷◌, length, drop, ◌==◌, nat_lt}
 use Rattle.rules.specs.Trace.{Next, at_end, fault, got, version, longest_trace}
 use Rattle.trace.specs.declared.reader.Reader.{Reader}
 use Rattle.trace.specs.declared.record.Step.{Step}

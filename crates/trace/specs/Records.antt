@@ -1,5 +1,5 @@
 -- What the code's records are in the rules' words.
-use Rattle.std.specs.Prelude.{ℕ, Ok, Err, Result}
+use Rattle.std.specs.Prelude.{Ok, Err, Result}
 use Rattle.rules.specs.Trace as rules
 use Rattle.rules.specs.declared.refusal.Refusal.{Refusal}
 use Rattle.trace.specs.declared.record.Record.{Record}

@@ -1,4 +1,6 @@
 // Reads a trace, runs its records on a machine, and prints the lines of the run.
+#![tactic(auto)]
+
 mod decode;
 pub mod encoding;
 pub mod machine;

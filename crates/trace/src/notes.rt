@@ -1,10 +1,9 @@
 // Runs traces that need no board.
 ghost use Rattle.std.specs.Prelude.{◌≡◌, true, false, ◌++◌, length, take, drop, Some, None};
 ghost use Rattle.rules.specs.Trace as rules;
-ghost use Rattle.trace.specs.Notes.{is_note, notes_from, only_notes, bare};
+ghost use Rattle.trace.specs.Notes.{is_note, notes_from, only_notes, bare, bare_notes};
 ghost use Rattle.trace.specs.Reading.{left};
 ghost use Rattle.trace.specs.Records.{meant};
-ghost use Rattle.std.proofs.Common.{rules};
 
 use crate::machine::{Elapsed, Machine};
 use crate::reader::Reader;
@@ -23,7 +22,7 @@ impl Machine for Bare {
 
     ghost performs = { bare };
 
-    ghost notes = { Prim.search rules };
+    ghost notes = { bare_notes };
 
     fn advance(&mut self, _ticks: u64) -> Result<Elapsed, Refusal> {
         Err(Refusal::PastEnd)

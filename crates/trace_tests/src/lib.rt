@@ -1,4 +1,5 @@
 // Runs small traces whose lines are known from the rules.
+#![tactic(auto)]
 
 #[cfg(test)]
 mod tests {

@@ -1,19 +1,19 @@
-use Rattle.std.proofs.Common.{◌≡◌, ◌+◌, Bool, true, ◌&&◌, List, [], ◌∷◌, get_or, drop, sym, ap, ◌∙◌}
+use Rattle.std.proofs.Common.{◌+◌, Bool, ◌&&◌, drop, sym, ap, ◌∙◌}
 use Rattle.rules.specs.Trace.{all_printable}
 use Rattle.std.proofs.lemmas.List.{at_drop_more, at_drop_all}
 use Rattle.trace.proofs.decode.all_printable.Goals as goal
 
-pub returns-then-not-is-printable : goal.returns-then-not-is-printable
+pub returns-then-not-is_printable : goal.returns-then-not-is_printable
 unfolding all_printable
-returns-then-not-is-printable c =
-    ap (λ (b : Bool). b && all_printable (drop (c.loop-byte.byte-index + 1) c.args.text.now)) c.if-not-is-printable.ensures
+returns-then-not-is_printable c =
+    ap (λ (b : Bool). b && all_printable (drop (c.loop-byte.byte-index + 1) c.args.text.now)) c.if-not-is_printable.ensures
     ∙ sym (at_drop_more all_printable c.args.text.now c.loop-byte.byte-index 0 c.loop-byte-test.true)
     ∙ c.loop-byte.invariant
 
 pub loop-byte-preserved : goal.loop-byte-preserved
 unfolding all_printable
 loop-byte-preserved c =
-    ap (λ (b : Bool). b && all_printable (drop (c.loop-byte.byte-index + 1) c.args.text.now)) c.if-not-is-printable.ensures
+    ap (λ (b : Bool). b && all_printable (drop (c.loop-byte.byte-index + 1) c.args.text.now)) c.if-not-is_printable.ensures
     ∙ sym (at_drop_more all_printable c.args.text.now c.loop-byte.byte-index 0 c.loop-byte-test.true)
     ∙ c.loop-byte.invariant
 

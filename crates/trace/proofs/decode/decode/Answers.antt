@@ -2,7 +2,7 @@ use Rattle.std.proofs.Common.{sym, ◌∙◌}
 use Rattle.rules.specs.Trace.{decode}
 use Rattle.trace.proofs.Decoding.{tests, decode_kind, decode_unknown, decode_none}
 use Rattle.trace.proofs.decode.decode.Goals as goal
-use Rattle.trace.proofs.decode.decode.Goals.{in-default-via-then-body-lt1, in-default-via-else-body-lt1+in-default·}
+use Rattle.trace.proofs.decode.decode.Goals.{in_default-via-then-body-lt1, in_default-via-else-body-lt1+in_default-1}
 
 pub returns-in-1 : goal.returns-in-1
 unfolding decode
@@ -28,9 +28,9 @@ pub returns-in-6 : goal.returns-in-6
 unfolding decode
 returns-in-6 c = c.note.ensures ∙ sym (decode_kind c.args.body.now (omega tests) 6 (omega tests))
 
-pub returns-in-default : goal.returns-in-default
-returns-in-default c =
-    elim c.in-default.branch [
-      | in-default-via-then-body-lt1 w ↦ sym (decode_none c.args.body.now (omega tests))
-      | in-default-via-else-body-lt1+in-default· w ↦ sym (decode_unknown c.args.body.now (omega tests) (omega tests) (omega tests) (omega tests) (omega tests) (omega tests) (omega tests))
+pub returns-in_default : goal.returns-in_default
+returns-in_default c =
+    elim c.in_default.branch [
+      | in_default-via-then-body-lt1 w ↦ sym (decode_none c.args.body.now (omega tests))
+      | in_default-via-else-body-lt1+in_default-1 w ↦ sym (decode_unknown c.args.body.now (omega tests) (omega tests) (omega tests) (omega tests) (omega tests) (omega tests) (omega tests))
     ]

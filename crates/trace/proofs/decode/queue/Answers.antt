@@ -3,4 +3,4 @@ use Rattle.trace.proofs.Decoding.{tests, queue_fields}
 use Rattle.trace.proofs.decode.queue.Goals as goal
 
 pub returns-in-len11 : goal.returns-in-len11
-returns-in-len11 c = queue_fields c.args.fields.now c.from-be-bytes-tick.result c.from-be-bytes-port.result _ (omega tests) c.from-be-bytes-tick.ensures c.from-be-bytes-port.ensures refl
+returns-in-len11 c = queue_fields c.args.fields.now c.from_be_bytes-tick.result c.from_be_bytes-port.result _ (omega tests) c.from_be_bytes-tick.ensures c.from_be_bytes-port.ensures refl

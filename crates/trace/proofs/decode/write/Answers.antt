@@ -3,4 +3,4 @@ use Rattle.trace.proofs.Decoding.{tests, write_fields}
 use Rattle.trace.proofs.decode.write.Goals as goal
 
 pub returns-in-len3 : goal.returns-in-len3
-returns-in-len3 c = write_fields c.args.fields.now c.from-be-bytes.result _ (omega tests) c.from-be-bytes.ensures refl
+returns-in-len3 c = write_fields c.args.fields.now c.from_be_bytes.result _ (omega tests) c.from_be_bytes.ensures refl

@@ -7,8 +7,8 @@ use Rattle.trace.proofs.notes.left_are_notes.Goals as goal
 pub loop-record-init : goal.loop-record-init
 loop-record-init c = at_start _
 
-pub returns-then-not-is-note : goal.returns-then-not-is-note
-returns-then-not-is-note c = at_other c.loop-record.invariant c.next.new.self c.in-Record.ensures.place c.in-Record.ensures.next (sym c.if-not-is-note.ensures)
+pub returns-then-not-is_note : goal.returns-then-not-is_note
+returns-then-not-is_note c = at_other c.loop-record.invariant c.next.new.self c.in-Record.ensures.place c.in-Record.ensures.next (sym c.if-not-is_note.ensures)
 
 pub returns-in-Fault : goal.returns-in-Fault
 returns-in-Fault c = at_fault c.loop-record.invariant c.in-Fault.ensures.next
@@ -24,4 +24,4 @@ loop-record-smaller c =
     omega arith
 
 pub loop-record-preserved : goal.loop-record-preserved
-loop-record-preserved c = at_note c.loop-record.invariant c.next.new.self c.in-Record.ensures.place c.in-Record.ensures.next (sym c.if-not-is-note.ensures) c.in-Record.ensures.same
+loop-record-preserved c = at_note c.loop-record.invariant c.next.new.self c.in-Record.ensures.place c.in-Record.ensures.next (sym c.if-not-is_note.ensures) c.in-Record.ensures.same

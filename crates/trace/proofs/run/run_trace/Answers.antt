@@ -14,7 +14,7 @@ returns g c =
     let printed : Printed c.new-output.result all c.match-new.output =
     elim c.match-new.branch [
       | in-Err w ↦ printed_to (sym w.output-is) (printed_as (ap (λ (r : Refusal). refusal_line r 0) w.in-Err.ensures.1 ∙ sym (run_refused g.M.Machine.performs (length out) (g.M.Machine.state c.args.machine.now) c.args.trace.now w.in-Err.ensures.0)) w.refused.ensures)
-      | in-Ok w ↦ printed_to (sym w.output-is) (printed_as (started_as g.M.Machine.performs (length out) (g.M.Machine.state c.args.machine.now) c.new-output.result out w.in-Ok.reader c.args.trace.now c.new-output.ensures.bytes c.new-output.ensures.place refl w.in-Ok.ensures.0 w.in-Ok.ensures.1 w.in-Ok.ensures.2) w.run-records.ensures)
+      | in-Ok w ↦ printed_to (sym w.output-is) (printed_as (started_as g.M.Machine.performs (length out) (g.M.Machine.state c.args.machine.now) c.new-output.result out w.in-Ok.reader c.args.trace.now c.new-output.ensures.bytes c.new-output.ensures.place refl w.in-Ok.ensures.0 w.in-Ok.ensures.1 w.in-Ok.ensures.2) w.run_records.ensures)
     ] in
     let lender = sym c.new-output.ensures.lender ∙ sym printed.lender in
     let place : c.place.result ≡ c.match-new.output.place = c.place.ensures in
