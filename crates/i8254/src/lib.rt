@@ -1,4 +1,6 @@
 // The 8254 timer, which jumps over any number of ticks at once.
+#![tactic(auto)]
+
 mod channel;
 mod count;
 mod counter;

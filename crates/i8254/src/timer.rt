@@ -3,7 +3,7 @@ ghost use Rattle.std.specs.Prelude.{◌≡◌, ◌/◌};
 ghost use Rattle.rules.specs.I8254 as rules;
 ghost use Rattle.rules.specs.I8254.{at_channel, control, power_on_timer, timer};
 ghost use Rattle.i8254.specs.Views.{view};
-ghost use Rattle.std.proofs.Common.{rules};
+ghost use Rattle.i8254.specs.Lawful.{timer_lawful};
 
 use crate::channel::Channel;
 use device::{Device, HORIZON};
@@ -55,8 +55,6 @@ impl Device for Timer {
 
     ghost state = { view };
 
-    ghost lawful = { Prim.search rules };
-
     fn ports() -> u16 {
         Self::WIDTH
     }
@@ -94,4 +92,6 @@ impl Device for Timer {
             _ => {}
         }
     }
+
+    ghost lawful = { timer_lawful };
 }

@@ -2,6 +2,8 @@
 // which starts at power on. The others are `write OFFSET BYTE`, `read OFFSET`, `announce`, `ticks N` and `byte-ticks N`, which
 // show OUT and the counter, by both its bytes or by one, after each tick, and `jumps FROM TO`, which holds each skip of that many
 // ticks against single ticks.
+#![tactic(auto)]
+
 use anyhow::anyhow;
 use device::Device;
 use i8254::Timer;

@@ -31,4 +31,4 @@ returns-in-RateGenerator c =
 pub returns-in-SquareWave : goal.returns-in-SquareWave
 returns-in-SquareWave c =
     let p = c.period-in-SquareWave in
-    λ v. square c.args.mode c.args.count v p.result c.half-length.result c.in-SquareWave.is p.ensures.meant p.ensures.within.0 p.ensures.within.1 c.half-length.ensures
+    λ v. square c.args.mode c.args.count v p.result c.half_length.result c.in-SquareWave.is p.ensures.meant p.ensures.within.0 p.ensures.within.1 c.half_length.ensures

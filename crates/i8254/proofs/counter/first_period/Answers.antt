@@ -36,7 +36,7 @@ square m w v k x is some e =
 pub returns-in-RateGenerator : goal.returns-in-RateGenerator
 returns-in-RateGenerator c =
     let p = c.period in
-    λ v. rate c.args.mode c.args.count v c.args.n p.result c.held.result (mode_2_counter (count_meant mode_2 c.args.count) c.rate-value.result) c.in-RateGenerator.is c.requires p.ensures.meant p.ensures.within.0 p.ensures.within.1 c.held.ensures c.rate-value.ensures
+    λ v. rate c.args.mode c.args.count v c.args.n p.result c.held.result (mode_2_counter (count_meant mode_2 c.args.count) c.rate_value.result) c.in-RateGenerator.is c.requires p.ensures.meant p.ensures.within.0 p.ensures.within.1 c.held.ensures c.rate_value.ensures
 
 pub returns-in-SquareWave : goal.returns-in-SquareWave
 returns-in-SquareWave c =

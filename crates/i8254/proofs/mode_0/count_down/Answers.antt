@@ -15,5 +15,5 @@ returns-then-out c = high c.args.out c.args.n c.args.value c.from.result c.held.
 
 pub returns-else-out : goal.returns-else-out
 returns-else-out c =
-    let zero_at = c.ticks-to-zero in
+    let zero_at = c.ticks_to_zero in
     low c.args.out c.args.n c.args.value c.from.result c.held.result zero_at.result c.if-out.false zero_at.ensures.same zero_at.ensures.within.0 zero_at.ensures.within.1 c.from.ensures c.held.ensures

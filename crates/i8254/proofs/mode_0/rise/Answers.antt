@@ -30,13 +30,13 @@ returns-then-out c =
 
 pub returns-in-Some : goal.returns-in-Some
 returns-in-Some c =
-    let at = c.ticks-to-zero in
+    let at = c.ticks_to_zero in
     low c.args.out c.args.loaded c.args.loaded c.args.waiting (Some c.in-Some.count) c.args.value (Some (at.result + 1)) c.if-out.false refl c.in-Some.is
     (waits c.args.loaded c.in-Some.count c.args.value at.result at.ensures.meant at.ensures.within.0 at.ensures.within.1)
 
 pub returns-then-loaded : goal.returns-then-loaded
 returns-then-loaded c =
-    let at = c.ticks-to-zero-then-loaded in
+    let at = c.ticks_to_zero-then-loaded in
     low c.args.out c.args.loaded true c.args.waiting None c.args.value (Some at.result) c.if-out.false c.if-loaded.true c.in-None.is
     (counts c.args.value at.result at.ensures.same at.ensures.within.0 at.ensures.within.1)
 

@@ -19,7 +19,7 @@ stands out loaded waiting v k idle is =
 
 pub returns-in-Some : goal.returns-in-Some
 returns-in-Some c =
-    waits c.args.out c.args.loaded c.args.waiting c.in-Some.count c.args.value c.args.n (view_counter c.count-down.result) c.in-Some.is c.requires (omega arith) c.count-down.ensures
+    waits c.args.out c.args.loaded c.args.waiting c.in-Some.count c.args.value c.args.n (view_counter c.count_down.result) c.in-Some.is c.requires (omega arith) c.count_down.ensures
 
 pub returns-else-loaded : goal.returns-else-loaded
 returns-else-loaded c = stands c.args.out c.args.loaded c.args.waiting c.args.value c.args.n c.if-loaded.false c.in-None.is

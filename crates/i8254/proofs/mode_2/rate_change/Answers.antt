@@ -20,9 +20,9 @@ high w v r same not-1 some many =
     several r v same not-1 some = omega arith
 
 pub returns-then-value-eq1 : goal.returns-then-value-eq1
-returns-then-value-eq1 c = low c.args.-count c.args.value (omega arith) c.if-value-eq1.true
+returns-then-value-eq1 c = low c.args._count c.args.value (omega arith) c.if-value-eq1.true
 
 pub returns : goal.returns
 returns c =
-    let zero_at = c.ticks-to-zero in
-    high c.args.-count c.args.value zero_at.result zero_at.ensures.same c.if-value-eq1.false zero_at.ensures.within.0 zero_at.ensures.within.1
+    let zero_at = c.ticks_to_zero in
+    high c.args._count c.args.value zero_at.result zero_at.ensures.same c.if-value-eq1.false zero_at.ensures.within.0 zero_at.ensures.within.1

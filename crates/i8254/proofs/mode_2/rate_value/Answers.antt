@@ -13,13 +13,13 @@ before n k r v h same many short e = rw (e, ← same) (sym (rate_before k n r sh
 after : (n k r v p h : ℕ) → r % 65536 ≡ v → 1 ≤ r → r ≤ 65536 → r ≤ k → p ≡ n → 2 ≤ p → p ≤ 65536 → h ≡ (p - (k - r) % p) % 65536 → mode_2_counter n h ≡ ticks counting k (mode_2_counter n v)
 after n k r v p h same some many long means few most e = rw (e, ← same, ← means) (sym (rate_after k p r some long many few most))
 
-pub returns-then-n-to-load : goal.returns-then-n-to-load
-returns-then-n-to-load c =
-    let load = c.ticks-to-zero-to-load in
-    before (count_meant mode_2 c.args.count) c.args.n load.result c.args.value c.held.result load.ensures.same load.ensures.within.1 c.if-n-to-load.true c.held.ensures
+pub returns-then-n-to_load : goal.returns-then-n-to_load
+returns-then-n-to_load c =
+    let load = c.ticks_to_zero-to_load in
+    before (count_meant mode_2 c.args.count) c.args.n load.result c.args.value c.held.result load.ensures.same load.ensures.within.1 c.if-n-to_load.true c.held.ensures
 
 pub returns : goal.returns
 returns c =
-    let load = c.ticks-to-zero-to-load in
+    let load = c.ticks_to_zero-to_load in
     let period = c.period-period in
-    after (count_meant mode_2 c.args.count) c.args.n load.result c.args.value period.result c.held-2.result load.ensures.same load.ensures.within.0 load.ensures.within.1 c.if-n-to-load.false period.ensures.meant period.ensures.within.0 period.ensures.within.1 c.held-2.ensures
+    after (count_meant mode_2 c.args.count) c.args.n load.result c.args.value period.result c.held-2.result load.ensures.same load.ensures.within.0 load.ensures.within.1 c.if-n-to_load.false period.ensures.meant period.ensures.within.0 period.ensures.within.1 c.held-2.ensures

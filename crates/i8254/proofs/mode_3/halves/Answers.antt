@@ -16,10 +16,10 @@ second n k p f high x means few long past e = e ∙ rw (← means, long) (sym (s
 pub returns-then-rest-first : goal.returns-then-rest-first
 returns-then-rest-first c =
     let period = c.period-period in
-    first (count_meant mode_3 c.args.count) c.args.n period.result c.half-length-first.result c.args.high (view_counter c.part_of_half.result) period.ensures.meant period.ensures.within.0 c.half-length-first.ensures c.if-rest-first.true c.part_of_half.ensures
+    first (count_meant mode_3 c.args.count) c.args.n period.result c.half_length-first.result c.args.high (view_counter c.part_of_half.result) period.ensures.meant period.ensures.within.0 c.half_length-first.ensures c.if-rest-first.true c.part_of_half.ensures
 
 pub returns-else-rest-first : goal.returns-else-rest-first
 returns-else-rest-first c =
     let period = c.period-period in
-    let part = c.part-of-half-else-rest-first in
-    second (count_meant mode_3 c.args.count) c.args.n period.result c.half-length-first.result c.args.high (view_counter part.result) period.ensures.meant period.ensures.within.0 c.half-length-first.ensures c.if-rest-first.false part.ensures
+    let part = c.part_of_half-else-rest-first in
+    second (count_meant mode_3 c.args.count) c.args.n period.result c.half_length-first.result c.args.high (view_counter part.result) period.ensures.meant period.ensures.within.0 c.half_length-first.ensures c.if-rest-first.false part.ensures

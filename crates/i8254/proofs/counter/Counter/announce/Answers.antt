@@ -23,8 +23,8 @@ pub returns-in-Some : goal.returns-in-Some
 returns-in-Some c =
     let v = c.args.self.value in
     let at = c.in-Starting in
-    let r : Option ℕ = Some c.first-fall.result in
-    subst (Says v r) (sym at.is) (subst (λ o. Says v r (Starting at.mode o)) (sym c.in-Some.is) (c.first-fall.ensures v))
+    let r : Option ℕ = Some c.first_fall.result in
+    subst (Says v r) (sym at.is) (subst (λ o. Says v r (Starting at.mode o)) (sym c.in-Some.is) (c.first_fall.ensures v))
 
 pub returns-in-None : goal.returns-in-None
 returns-in-None c =
@@ -37,7 +37,7 @@ pub returns-in-Square : goal.returns-in-Square
 returns-in-Square c =
     let v = c.args.self.value in
     let at = c.in-Square in
-    let next = c.square-change in
+    let next = c.square_change in
     subst (Says v (Some next.result)) (sym at.is)
     (subst (λ k. Says v (Some k) (Square at.count at.high at.left)) (sym next.ensures.next)
     (square_announces (count_meant mode_3 at.count) at.left v at.high (omega arith) (omega arith)))
