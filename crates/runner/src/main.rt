@@ -4,6 +4,7 @@
 ghost use Rattle.std.specs.Prelude.{◌≤◌, length, IfOk};
 
 use std::io::{Read, Write};
+use std::process::ExitCode;
 use std::{env, io};
 use trace::run_notes;
 
@@ -28,12 +29,12 @@ fn fill(input: &mut impl Read, buffer: &mut [u8]) -> io::Result<usize>
 }
 
 // Says why nothing was run, and ends with a failure.
-fn refuse(rt: &HostRuntime, why: &str) -> anyhow::Result<()> {
+fn refuse(rt: &HostRuntime, why: &str) -> anyhow::Result<ExitCode> {
     rt.eprintln(why)?;
-    Err(anyhow::Error::msg(why))
+    Ok(ExitCode::FAILURE)
 }
 
-fn main(rt: HostRuntime) -> anyhow::Result<()> {
+fn main(rt: HostRuntime) -> anyhow::Result<ExitCode> {
     if env::args(&rt)?.count() > 1 {
         return refuse(
             &rt,
@@ -52,5 +53,5 @@ fn main(rt: HostRuntime) -> anyhow::Result<()> {
     };
     output.truncate(printed);
     rt.stdout().write_all(output.as_slice())?;
-    Ok(())
+    Ok(ExitCode::SUCCESS)
 }
