@@ -1,2 +1,2 @@
+pub mod Ports
 pub mod Views
-pub mod Lawful

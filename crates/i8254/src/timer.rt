@@ -3,7 +3,7 @@ ghost use Rattle.std.specs.Prelude.{◌≡◌, ◌/◌};
 ghost use Rattle.rules.specs.I8254 as rules;
 ghost use Rattle.rules.specs.I8254.{at_channel, control, power_on_timer, timer};
 ghost use Rattle.i8254.specs.Views.{view};
-ghost use Rattle.i8254.specs.Lawful.{timer_lawful};
+ghost use Rattle.i8254.specs.Ports.{timer_lawful};
 
 use crate::channel::Channel;
 use device::{Device, HORIZON};
