@@ -26,7 +26,7 @@ pub trait Entry: Copy {
 pub const MOST_NODES: usize = 4096;
 
 // A binary heap in the first `len` nodes: no entry precedes its parent. Each call asks for that and keeps it, as `Ready`;
-// whoever holds an agenda states it of its own, since what lends its nodes on can have no ghost field.
+// whoever holds an agenda states it of its own.
 #[derive(Drop)]
 pub struct Agenda<'a, E> {
     nodes: &'a mut [E],

@@ -1,5 +1,5 @@
+// Examples of the pulse generator.
 #![tactic(auto)]
 
-// Examples of the pulse generator.
 #[cfg(test)]
 mod tests;
