@@ -2,7 +2,8 @@
 use Rattle.std.proofs.Common.{◌≡◌, ℕ, zero, suc, ◌<◌, Bool, false, List, [], ◌∷◌, ◌++◌, length, get_or, set, sym, refl, ap, ◌∙◌, subst, inl, inr, arith, length-set, get_or-set_other, get_or-set_same, set-set}
 use Rattle.rules.specs.Ascending.{insert, ascending}
 use Rattle.std.proofs.lemmas.Bool.{cases_Bool, cases_eq}
-use Rattle.agenda.proofs.Order.{Total, one_way, strict, apart}
+use Rattle.agenda.specs.Order.{IsStrictTotalOrder}
+use Rattle.agenda.proofs.Order.{one_way, strict, apart}
 
 module _ {E : Type 0} (before : E → E → Bool) where
   pub length_insert : (x : E) (l : List E) → length (insert before x l) ≡ suc (length l)
@@ -15,7 +16,7 @@ module _ {E : Type 0} (before : E → E → Bool) where
   length_ascending [] = refl
   length_ascending (x ∷ l) = length_insert x (ascending before l) ∙ ap suc (length_ascending l)
 
-module _ {E : Type 0} {before : E → E → Bool} (o : Total before) where
+module _ {E : Type 0} {before : E → E → Bool} (o : IsStrictTotalOrder before) where
   -- two entries go in in either order
   same_comm : {x y : E} (l : List E) → x ≡ y → insert before x (insert before y l) ≡ insert before y (insert before x l)
   same_comm {x} {y} l e = subst (λ w. insert before x (insert before w l) ≡ insert before w (insert before x l)) e refl

@@ -1,14 +1,9 @@
--- What the three laws of an entry's precedence give.
+-- What follows of a total order.
 use Rattle.std.proofs.Common.{◌≡◌, Bool, true, false, sym, subst, inl, inr}
 use Rattle.std.proofs.lemmas.Bool.{both_ways, cases_Bool}
+use Rattle.agenda.specs.Order.{IsStrictTotalOrder}
 
--- the laws of a trait `Entry`, as one fact
-pub record Total {E : Type 0} (before : E → E → Bool) : Type 0 where
-  pub irreflexive : (x : E) → before x x ≡ false
-  pub transitive : (x y z : E) → before x y ≡ true → before y z ≡ true → before x z ≡ true
-  pub total : (x y : E) → before x y ≡ false → before y x ≡ false → x ≡ y
-
-module _ {E : Type 0} {before : E → E → Bool} (o : Total before) where
+module _ {E : Type 0} {before : E → E → Bool} (o : IsStrictTotalOrder before) where
   -- of two entries one alone precedes
   pub one_way : {x y : E} → before x y ≡ true → before y x ≡ false
   one_way {x} {y} h = elim (cases_Bool (before y x)) [ inl t ↦ absurd (both_ways (before x x) (o.irreflexive x) (o.transitive x y x h t)) | inr f ↦ f ]

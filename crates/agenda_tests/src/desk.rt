@@ -1,17 +1,16 @@
-// A holder of an agenda, which keeps the agenda's order as its own.
-ghost use Rattle.std.specs.Prelude.{◌≡◌, true, [], ◌∷◌, drop, MatchOption};
-ghost use Rattle.agenda.specs.Nodes.{usable, sound};
-ghost use Rattle.agenda.specs.Waiting.{waiting, first_of};
+// A holder of an agenda: heap order comes with the agenda's type, and the desk says nothing of it.
+ghost use Rattle.std.specs.Prelude.{◌≡◌, ◌<◌, ◌↔◌, [], ◌∷◌, drop, MatchOption, IsOk, OnOk, OnErr};
+ghost use Rattle.agenda.specs.Nodes.{usable};
+ghost use Rattle.agenda.specs.Waiting.{waiting, first_of, Unchanged};
 ghost use Rattle.rules.specs.Ascending.{insert as placed};
 ghost use Rattle.agenda_tests.specs.Orders.{deadline_before};
 
 use crate::Deadline;
-use agenda::Agenda;
+use agenda::{Agenda, Full};
 
 #[derive(Drop)]
 pub struct Desk<'a> {
     queue: Agenda<'a, Deadline>,
-    ghost ok: { sound deadline_before queue.nodes.now queue.len ≡ true },
 }
 
 impl<'a> Desk<'a> {
@@ -21,8 +20,10 @@ impl<'a> Desk<'a> {
         }
     }
 
-    pub fn add(&mut self, due: Deadline) -> bool
-        ensures { result ≡ true → waiting deadline_before self.new.queue ≡ placed deadline_before due (waiting deadline_before self.old.queue) }
+    pub fn add(&mut self, due: Deadline) -> Result<(), Full>
+        ensures room { IsOk result ↔ (self.old.queue.len < usable self.old.queue.nodes.now) }
+        ensures ok { OnOk result (waiting deadline_before self.new.queue ≡ placed deadline_before due (waiting deadline_before self.old.queue)) }
+        ensures err { OnErr result (Unchanged self.old.queue self.new.queue) }
     {
         self.queue.insert(due)
     }
@@ -41,9 +42,8 @@ impl<'a> Desk<'a> {
 }
 
 // The nodes past the usable ones come back as they were lent.
-pub fn lend(nodes: &mut [Deadline], due: Deadline) -> bool
+pub fn lend(nodes: &mut [Deadline], due: Deadline) -> Result<(), Full>
     ensures { drop (usable nodes.old) nodes.new ≡ drop (usable nodes.old) nodes.old }
 {
-    let mut agenda = Agenda::new(nodes);
-    agenda.insert(due)
+    Agenda::new(nodes).insert(due)
 }

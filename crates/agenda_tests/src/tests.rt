@@ -1,8 +1,8 @@
-ghost use Rattle.agenda.specs.Waiting.{Ready};
-
 use super::desk::Desk;
 use super::*;
-use agenda::Agenda;
+use agenda::{Agenda, Full};
+use rules::{QueuedWrite, Refusal};
+use std::array;
 
 // Entries that repeat and come in no order.
 fn mixed(i: u64) -> u64 {
@@ -28,32 +28,18 @@ fn some_deadline(i: u64) -> Deadline {
 }
 
 // Puts the entries in one by one, and says how many found a node.
-fn fill<E: Entry>(agenda: &mut Agenda<'_, E>, entries: &[E]) -> usize
-    requires { Ready E.Entry.before agenda.old }
-    ensures { Ready E.Entry.before agenda.new }
-{
-    let mut taken = 0;
-    for entry in entries {
-        if agenda.insert(*entry) {
-            taken += 1;
-        }
-    }
-    taken
+fn fill<E: Entry>(agenda: &mut Agenda<'_, E>, entries: &[E]) -> usize {
+    entries
+        .iter()
+        .filter(|entry| agenda.insert(**entry).is_ok())
+        .count()
 }
 
 // Whether the entries come out as listed, and then none.
-fn empties<E: Entry + PartialEq>(agenda: &mut Agenda<'_, E>, listed: &[E]) -> bool
-    requires { Ready E.Entry.before agenda.old }
-    ensures { Ready E.Entry.before agenda.new }
-{
-    for entry in listed {
-        let first = agenda.first();
-        let taken = agenda.take();
-        if first != Some(*entry) || taken != Some(*entry) {
-            return false;
-        }
-    }
-    agenda.length() == 0 && agenda.take().is_none()
+fn empties<E: Entry + PartialEq>(agenda: &mut Agenda<'_, E>, listed: &[E]) -> bool {
+    let all = listed.iter().all(|entry| agenda.first() == Some(*entry)
+        && agenda.take() == Some(*entry));
+    all && agenda.length() == 0 && agenda.take().is_none()
 }
 
 // Whether the entries that `nodes` take in come out as listed.
@@ -65,10 +51,7 @@ fn passes<E: Entry + PartialEq>(nodes: &mut [E], entries: &[E], listed: &[E]) ->
 
 #[test]
 fn writes_leave_in_order(rt: HostRuntime) {
-    let mut entries = [some_write(0); 300];
-    for (i, entry) in entries.iter_mut().enumerate() {
-        *entry = some_write(i as u64);
-    }
+    let mut entries: [QueuedWrite; 300] = array::from_fn(|i| some_write(i as u64));
     let mut sorted = entries;
     sorted.sort_unstable();
     let mut nodes = [some_write(0); 300];
@@ -121,9 +104,12 @@ fn emptied_nodes_are_used_again(rt: HostRuntime) {
     let late = Deadline { tick: 2, slot: 0 };
     let mut nodes = [late; 2];
     let mut desk = Desk::new(&mut nodes);
-    assert!(rt; desk.add(late) && desk.add(early) && !desk.add(middle));
+    assert_eq!(rt; desk.add(late), Ok(()));
+    assert_eq!(rt; desk.add(early), Ok(()));
+    assert_eq!(rt; desk.add(middle), Err(Full));
     assert_eq!(rt; desk.next(), Some(early));
-    assert!(rt; desk.add(middle) && !desk.add(early));
+    assert_eq!(rt; desk.add(middle), Ok(()));
+    assert_eq!(rt; desk.add(early), Err(Full));
     assert_eq!(rt; desk.earliest(), Some(middle));
     assert_eq!(rt; desk.next(), Some(middle));
     assert_eq!(rt; desk.next(), Some(late));
@@ -133,10 +119,7 @@ fn emptied_nodes_are_used_again(rt: HostRuntime) {
 // Of more than 4,096 nodes the others stay, and 4,096 entries wait.
 #[test]
 fn many_nodes(rt: HostRuntime) {
-    let mut entries = [some_deadline(0); 4097];
-    for (i, entry) in entries.iter_mut().enumerate() {
-        *entry = some_deadline(i as u64);
-    }
+    let entries: [Deadline; 4097] = array::from_fn(|i| some_deadline(i as u64));
     let mut sorted = [some_deadline(0); 4096];
     sorted.copy_from_slice(&entries[0..4096]);
     sorted.sort_unstable();
@@ -154,4 +137,12 @@ fn many_nodes(rt: HostRuntime) {
     assert_eq!(rt; Agenda::new(&mut nodes).capacity(), 4096);
     assert!(rt; passes(&mut nodes, &entries, &sorted), "4,097 nodes");
     assert_eq!(rt; nodes[4096], unused);
+}
+
+// A full agenda says so, and a queue of writes that is full refuses the next.
+#[test]
+fn full_says_so(rt: HostRuntime) {
+    let text = format!(in rt.alloc(); "{Full}").expect(&rt, "memory");
+    assert_eq!(rt; text.as_str(), "every node is taken");
+    assert_eq!(rt; Refusal::from(Full), Refusal::QueueFull);
 }

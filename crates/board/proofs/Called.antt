@@ -1,18 +1,24 @@
 -- Steps that the proofs of the calls share.
-use Rattle.std.proofs.Common.{◌≡◌, ℕ, ◌-◌, ◌<◌, ◌≤◌, min, Bool, true, false, ◌&&◌, ltb, leb, List, length, drop, ap, ◌∙◌, subst, ap₂, le-ltb, lt-ltb, le-leb}
+use Rattle.std.proofs.Common.{◌≡◌, ℕ, ◌-◌, ◌<◌, ◌≤◌, min, true, ◌&&◌, ltb, leb, List, length, drop, ap, ◌∙◌, subst, le-ltb, lt-ltb, le-leb, arith}
 use Rattle.agenda.specs.Nodes.{usable}
 use Rattle.agenda.specs.Waiting.{Kept}
-use Rattle.agenda.specs.declared.Agenda.{Agenda}
+use Rattle.agenda.specs.declared.Entry.{Ghosts}
+use Rattle.agenda.specs.declared.agenda.Agenda.{Agenda}
 use Rattle.std.proofs.lemmas.Bool.{and_from}
 use Rattle.rules.specs.Ascending.{insert}
-use Rattle.rules.specs.Board.{Board, Fitting, Answer, Answered, edges_seen, done, refused, do_advance, do_queue, tick_times, with_pending, precedes, end_of_time}
+use Rattle.rules.specs.Board.{Board, Fitting, Answer, Answered, edges_seen, done, refused, do_advance, do_queue, tick_times, with_pending, precedes, end_of_time, most_nodes}
 use Rattle.rules.specs.declared.queued.QueuedWrite.{QueuedWrite}
-use Rattle.rules.specs.declared.refusal.Refusal.TheVariants.{LongAdvance, PastEnd, BadTick, QueueFull}
+use Rattle.rules.specs.declared.refusal.Refusal.TheVariants.{QueueFull}
 use Rattle.rules.specs.Device.{horizon}
+use Rattle.agenda.proofs.Heaps.{length_held, sound_within}
+use Rattle.slots.specs.Slots.{States}
+use Rattle.slots.specs.declared.fitted.Slots.{Ghosts as Fittings}
+use Rattle.board.specs.View.{view}
+use Rattle.board.specs.declared.board.Board as B
 use Rattle.board_laws.specs.Jump.{counted}
 
 -- An agenda that is the same works in the same nodes.
-pub kept_same : {E : Type 0} (old new : Agenda E) → new ≡ old → Kept old new
+pub kept_same : {E : Type 0} {entry : Ghosts E} (old new : Agenda E entry) → new ≡ old → Kept old new
 kept_same old new e = record {
   lender = ap (λ q. q.nodes.ghost_name) e;
   number = ap (λ q. length q.nodes.now) e;
@@ -20,13 +26,23 @@ kept_same old new e = record {
 }
 
 -- Calls join.
-pub kept_both : {E : Type 0} (old mid new : Agenda E) → Kept old mid → Kept mid new → Kept old new
+pub kept_both : {E : Type 0} {entry : Ghosts E} (old mid new : Agenda E entry) → Kept old mid → Kept mid new → Kept old new
 kept_both old mid new a b = record {
   lender = b.lender ∙ a.lender;
   number = b.number ∙ a.number;
   unused =
       subst (λ n. drop n new.nodes.now ≡ drop n mid.nodes.now) (ap (λ n. min 4096 n) a.number) b.unused ∙ a.unused;
 }
+
+-- As many writes wait as nodes are taken, and no more than are usable.
+pub pending_len : {F S0 S1 S2 S3 : Type 0} {slots : Fittings F} (states : F → States S0 S1 S2 S3) (b : B.Board F slots) → (length (view states b).pending ≡ b.queue.len) × (b.queue.len ≤ usable b.queue.nodes.now)
+pending_len states b =
+    let q = b.queue in
+    let few = sound_within precedes q.nodes.now q.len q.ready in
+    (length_held precedes q.nodes.now q.len (omega arith), few)
+
+pub few_pending : {F S0 S1 S2 S3 : Type 0} {slots : Fittings F} (states : F → States S0 S1 S2 S3) (b : B.Board F slots) → length (view states b).pending ≤ most_nodes
+few_pending states b = let all = pending_len states b in omega arith
 
 abbrev pub answered : {S0 S1 S2 S3 : Type 0} → Answer → Board S0 S1 S2 S3 → Answered S0 S1 S2 S3
 answered a b = record { answer = a; board = b }
@@ -41,37 +57,13 @@ module _ {S0 S1 S2 S3 : Type 0} (f : Fitting S0 S1 S2 S3) (w : QueuedWrite) (b :
   in_time : (ltb b.time w.tick && leb w.tick end_of_time) ≡ true
   in_time = and_from (ltb b.time w.tick) (leb w.tick end_of_time) (lt-ltb b.time w.tick ahead) (le-leb w.tick end_of_time within)
 
-  -- by whether the tick is in time and a node is free
-  outcome : Bool → Bool → Answered S0 S1 S2 S3
-  outcome timely free =
-      elim timely [
-        | false ↦ answered (refused BadTick) b
-        | true ↦ elim free [ false ↦ answered (refused QueueFull) b | true ↦ answered done (with_pending (insert precedes w b.pending) b) ]
-      ]
-
   pub queue_taken : length b.pending < b.nodes → do_queue f w b ≡ answered done (with_pending (insert precedes w b.pending) b)
-  unfolding outcome
-  queue_taken room = ap₂ outcome in_time (lt-ltb (length b.pending) b.nodes room)
+  queue_taken room = rw (in_time, do_queue) (rw (lt-ltb (length b.pending) b.nodes room, do_queue))
 
   pub queue_full : b.nodes ≤ length b.pending → do_queue f w b ≡ answered (refused QueueFull) b
-  unfolding outcome
-  queue_full full = ap₂ outcome in_time (le-ltb (length b.pending) b.nodes full)
+  queue_full full = rw (in_time, do_queue) (rw (le-ltb (length b.pending) b.nodes full, do_queue))
 
 -- What an advance comes to, by its tests.
-module _ {S0 S1 S2 S3 : Type 0} (f : Fitting S0 S1 S2 S3) (n : ℕ) (b : Board S0 S1 S2 S3) where
-  advance_outcome : Bool → Bool → Answered S0 S1 S2 S3
-  advance_outcome long past =
-      elim long [
-        | true ↦ answered (refused LongAdvance) b
-        | false ↦
-            elim past [
-              | true ↦ answered (refused PastEnd) b
-              | false ↦ (let after = tick_times f n (counted f b 0) in answered (edges_seen after.edges) after.board)
-            ]
-      ]
-
-  pub advance_taken : (after : Board S0 S1 S2 S3) (e : ℕ) → n ≤ horizon → n ≤ end_of_time - b.time → tick_times f n (counted f b 0) ≡ counted f after e
-      → do_advance f n b ≡ answered (edges_seen e) after
-  unfolding advance_outcome
-  advance_taken after e near within ran =
-      ap₂ advance_outcome (le-ltb horizon n near) (le-ltb (end_of_time - b.time) n within) ∙ ap (λ c. answered (edges_seen c.edges) c.board) ran
+pub advance_taken : {S0 S1 S2 S3 : Type 0} (f : Fitting S0 S1 S2 S3) (n : ℕ) (b after : Board S0 S1 S2 S3) (e : ℕ) → n ≤ horizon → n ≤ end_of_time - b.time → tick_times f n (counted f b 0) ≡ counted f after e
+    → do_advance f n b ≡ answered (edges_seen e) after
+advance_taken f n b after e near within ran = rw (le-ltb horizon n near, do_advance) (rw (le-ltb (end_of_time - b.time) n within, do_advance) (rw ran))

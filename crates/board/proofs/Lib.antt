@@ -1,5 +1,6 @@
 pub mod Called
 pub mod Carrying
 pub mod Fresh
+pub mod Progressing
 pub mod Stillness
-pub mod Surveyed
+pub mod Wiring

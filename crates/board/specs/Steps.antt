@@ -1,24 +1,45 @@
 -- What the steps of an advance do, by the tick board.
-use Rattle.std.specs.Prelude.{◌≡◌, ℕ, ◌+◌, ◌<◌, ◌≤◌, Some, None, Option}
+use Rattle.std.specs.Prelude.{◌≡◌, ℕ, ◌+◌, ◌*◌, ◌<◌, ◌≤◌, length, Some, None, Option}
 use Rattle.agenda.specs.Waiting.{Kept}
 use Rattle.rules.specs.Board as rules
-use Rattle.board_laws.specs.Jump.{counted}
+use Rattle.board_laws.specs.Jump.{counted, arrival}
 use Rattle.slots.specs.Slots.{States}
+use Rattle.slots.specs.declared.fitted.Slots.{Ghosts}
 use Rattle.board.specs.View.{view}
 use Rattle.board.specs.declared.board.Board.{Board}
 
-module _ {F S0 S1 S2 S3 : Type 0} (states : F → States S0 S1 S2 S3) (f : rules.Fitting S0 S1 S2 S3) where
-  -- The rest of the writes that are due, with e edges counted so far.
-  abbrev pub rest_of : Board F → ℕ → rules.Counted S0 S1 S2 S3
-  rest_of b e = rules.carry_out f (view states b).pending (counted f (view states b) e)
+module _ {S0 S1 S2 S3 : Type 0} (f : rules.Fitting S0 S1 S2 S3) where
+  -- What the tick board has yet to do: to carry out the writes that are due, to arrive k ticks on, to let n ticks pass, or nothing.
+  abbrev pub due : rules.Counted S0 S1 S2 S3 → rules.Counted S0 S1 S2 S3
+  due c = rules.carry_out f c.board.pending c
 
-  -- One of the due writes was carried out, with so many edges; or none is due, and nothing was done.
-  pub record CarriedOne (more : ℕ) (before after : Board F) : Type 0 where
-    pub same : (e : ℕ) → rest_of before e ≡ rest_of after (e + more)
-    pub few : more ≤ 4
-    pub fewer : after.queue.len < before.queue.len
+  abbrev pub arriving : ℕ → rules.Counted S0 S1 S2 S3 → rules.Counted S0 S1 S2 S3
+  arriving k c = arrival f k c.board c.edges
+
+  abbrev pub ticking : ℕ → rules.Counted S0 S1 S2 S3 → rules.Counted S0 S1 S2 S3
+  ticking n c = rules.tick_times f n c
+
+  abbrev pub nothing : rules.Counted S0 S1 S2 S3 → rules.Counted S0 S1 S2 S3
+  nothing c = c
+
+module _ {F S0 S1 S2 S3 : Type 0} {slots : Ghosts F} (states : F → States S0 S1 S2 S3) (f : rules.Fitting S0 S1 S2 S3) where
+  -- A part of an advance: what lay ahead of the board before is what is left of it on the board after, with so many edges counted
+  -- more. They are at most four for each of the handings and for each write that is no longer pending.
+  pub record Progress (ahead left : rules.Counted S0 S1 S2 S3 → rules.Counted S0 S1 S2 S3) (handings edges : ℕ) (before after : Board F slots) : Type 0 where
+    pub same : (e : ℕ) → ahead (counted f (view states before) e) ≡ left (counted f (view states after) (e + edges))
+    pub few : edges + 4 * length (view states after).pending ≤ 4 * handings + 4 * length (view states before).pending
     pub nodes : Kept before.queue after.queue
 
-  abbrev pub Carried : Option ℕ → Board F → Board F → Type 0
-  Carried None before after = (after ≡ before) × ((e : ℕ) → rest_of before e ≡ counted f (view states before) e)
-  Carried (Some more) before after = CarriedOne more before after
+  -- One of the due writes was carried out, with so many edges; or none is due, and nothing was done.
+  abbrev pub CarriesNext : Option ℕ → Board F slots → Board F slots → Type 0
+  CarriesNext None before after = (after ≡ before) × Progress (due f) (nothing f) 0 0 before after
+  CarriesNext (Some edges) before after = Progress (due f) (due f) 0 edges before after × (length (view states after).pending < length (view states before).pending)
+
+  abbrev pub CarriesOut : ℕ → Board F slots → Board F slots → Type 0
+  CarriesOut = Progress (due f) (nothing f) 0
+
+  abbrev pub Arrives : ℕ → ℕ → Board F slots → Board F slots → Type 0
+  Arrives k = Progress (arriving f k) (nothing f) 1
+
+  abbrev pub Runs : ℕ → ℕ → Board F slots → Board F slots → Type 0
+  Runs n = Progress (ticking f n) (nothing f) n

@@ -3,27 +3,17 @@ use Rattle.std.specs.Prelude.{◌≡◌}
 use Rattle.rules.specs.Board as rules
 use Rattle.agenda.specs.Nodes.{usable}
 use Rattle.agenda.specs.Waiting.{waiting, Kept}
-use Rattle.i8259.specs.Views.{pair_view}
 use Rattle.slots.specs.Slots.{States}
+use Rattle.slots.specs.declared.fitted.Slots.{Ghosts}
+use Rattle.board.specs.Placing.{placed}
 use Rattle.board.specs.declared.board.Board.{Board}
 
-module _ {F S0 S1 S2 S3 : Type 0} (states : F → States S0 S1 S2 S3) where
-  abbrev pub view : Board F → rules.Board S0 S1 S2 S3
-  view b =
-      record {
-        time = b.time;
-        slot_0 = (states b.slots).slot_0;
-        slot_1 = (states b.slots).slot_1;
-        slot_2 = (states b.slots).slot_2;
-        slot_3 = (states b.slots).slot_3;
-        handed = b.handed;
-        pair = pair_view b.pair;
-        pending = waiting rules.precedes b.queue;
-        nodes = usable b.queue.nodes.now;
-      }
+module _ {F S0 S1 S2 S3 : Type 0} {slots : Ghosts F} (states : F → States S0 S1 S2 S3) where
+  abbrev pub view : Board F slots → rules.Board S0 S1 S2 S3
+  view b = placed states b.ports b.time (waiting rules.precedes b.queue) (usable b.queue.nodes.now)
 
   -- A call did on the board what the tick board does: it gave the same answer and left the same state. Of the lent nodes, those
   -- past the usable ones are as they were.
-  pub record Does (f : rules.Fitting S0 S1 S2 S3) (call : rules.Call) (before : Board F) (answer : rules.Answer) (after : Board F) : Type 0 where
+  pub record Does (f : rules.Fitting S0 S1 S2 S3) (call : rules.Call) (before : Board F slots) (answer : rules.Answer) (after : Board F slots) : Type 0 where
     pub same : record { answer = answer; board = view after } ≡ rules.call f call (view before)
     pub nodes : Kept before.queue after.queue

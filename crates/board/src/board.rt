@@ -1,22 +1,28 @@
 // What a board holds. Its calls are in the modules below, since their contracts cite a view of this struct.
-ghost use Rattle.std.specs.Prelude.{◌≡◌, true};
-ghost use Rattle.agenda.specs.Nodes.{sound};
-ghost use Rattle.rules.specs.Board.{precedes};
+ghost use Rattle.std.specs.Prelude.{◌≡◌};
+ghost use Rattle.rules.specs.I8259.{drive_lines};
+ghost use Rattle.rules.specs.Board.{on_line, lines};
+ghost use Rattle.slots.specs.Slots.{levels_of};
 
 use agenda::Agenda;
-use i8259::Pair;
+use handing::Ports;
 use rules::QueuedWrite;
+use slots::Slots;
 
 mod advance;
 mod calls;
 mod handing;
 
-pub struct Board<'a, F> {
+// Time ends here, after 2^48 ticks.
+const END_OF_TIME: u64 = 1 << 48;
+
+// Between its calls a board is settled: one more handing of the levels would change nothing and give no edge.
+// It has no `impl Model`: what it stands for depends on what its slots mean, and a model's value cannot name a bound's ghost members.
+#[derive(Drop)]
+pub struct Board<'a, F: Slots> {
     time: u64,
-    slots: F,
-    // each slot's level last handed over
-    handed: [bool; 4],
-    pair: Pair,
+    ports: Ports<F>,
     queue: Agenda<'a, QueuedWrite>,
-    ghost ordered: { sound precedes queue.nodes.now queue.len ≡ true },
+    ghost handed_over: { ports.handed ≡ levels_of F.fitting (F.states ports.slots) },
+    ghost driven: { drive_lines (on_line lines ports.handed) ports.pair ≡ ports.pair },
 }

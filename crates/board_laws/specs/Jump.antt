@@ -1,8 +1,10 @@
 -- Why time may jump: on a settled board, ticks on which no level changes and no write is due only move time and the devices.
-use Rattle.std.specs.Prelude.{◌≡◌, ℕ, zero, suc, ◌+◌, ◌-◌, ◌≤◌, Bool, true, false, List, [], ◌∷◌, ◌==◌}
+use Rattle.std.specs.Prelude.{◌≡◌, ℕ, zero, suc, ◌+◌, ◌-◌, ◌≤◌, Bool, true, false, List, [], ◌∷◌}
 use Rattle.std.proofs.Math.Path.{refl, sym, ap, subst}
 use Rattle.std.proofs.Common.{ap₂, ◌∙◌, add-zero, add_assoc, add-one, arith, eq-eqb, ne_eqb}
 use Rattle.std.proofs.Math.Nat.{zero-add, suc-add}
+use Rattle.std.proofs.Common.{inl, inr}
+use Rattle.std.proofs.lemmas.Bool.{cases_eq}
 use Rattle.rules.specs.Device.{ticks}
 use Rattle.rules.specs.TickLaws.{ticks_last}
 use Rattle.board_laws.specs.Driving.{drive_lines_again}
@@ -81,14 +83,13 @@ module _ {A B C D : Type 0} (f : Fitting A B C D) where
   pub carry_none : (ws : List QueuedWrite) (b : Board A B C D) (e : ℕ) → NoneDue b.time ws → carry_out f ws (counted b e) ≡ counted (with_pending ws b) e
   unfolding carry_out
   carry_none [] b e h = refl
-  carry_none (w ∷ ws) b e h =
-      ap
-      (λ t.
-      elim t [
-        | true ↦ carry_out f ws (handing f (counted (after_write f w.port w.byte (with_pending ws b)) e))
-        | false ↦ counted (with_pending (w ∷ ws) b) e
-      ])
-      (ne_eqb w.tick b.time h)
+  carry_none (w ∷ ws) b e h = rw (ne_eqb w.tick b.time h, carry_out)
+
+  -- A write that is due is carried out, and then the rest.
+  pub carry_due : (w : QueuedWrite) (ws : List QueuedWrite) (b : Board A B C D) (e : ℕ) → w.tick ≡ b.time
+      → carry_out f (w ∷ ws) (counted b e) ≡ carry_out f ws (handing f (counted (after_write f w.port w.byte (with_pending ws b)) e))
+  unfolding carry_out
+  carry_due w ws b e due = rw (eq-eqb w.tick b.time due, carry_out)
 
   -- A settled board whose levels stay for a tick is settled after it.
   settled_later : (b : Board A B C D) → Settled b → levels f (later 1 b) ≡ levels f b → Settled (later 1 b)
@@ -106,35 +107,12 @@ module _ {A B C D : Type 0} (f : Fitting A B C D) where
   -- later, by one tick and then by n
   later_suc : (n : ℕ) (b : Board A B C D) → later n (later 1 b) ≡ later (suc n) b
   unfolding ticks
-  later_suc n b = ap (λ t. record {
-    time = t;
-    slot_0 = ticks f.kind_0 (suc n) b.slot_0;
-    slot_1 = ticks f.kind_1 (suc n) b.slot_1;
-    slot_2 = ticks f.kind_2 (suc n) b.slot_2;
-    slot_3 = ticks f.kind_3 (suc n) b.slot_3;
-    handed = b.handed;
-    pair = b.pair;
-    pending = b.pending;
-    nodes = b.nodes;
-  }) (omega arith)
+  later_suc n b = let moved : b.time + 1 + n ≡ b.time + suc n = omega arith in rw moved
 
   -- The jump: n ticks of a settled board on which no level changes and no write is due.
   pub jump : (n : ℕ) (b : Board A B C D) (e : ℕ) → Settled b → Quiet n b → Idle n b → tick_times f n (counted b e) ≡ counted (later n b) e
   unfolding tick_times ticks
-  jump zero b e s q i = ap (λ t. counted (rewired_time t b) e) (sym (add-zero b.time))
-    where
-      rewired_time : ℕ → Board A B C D → Board A B C D
-      rewired_time t b = record {
-        time = t;
-        slot_0 = b.slot_0;
-        slot_1 = b.slot_1;
-        slot_2 = b.slot_2;
-        slot_3 = b.slot_3;
-        handed = b.handed;
-        pair = b.pair;
-        pending = b.pending;
-        nodes = b.nodes;
-      }
+  jump zero b e s q i = rw add-zero
   jump (suc n) b e s q i =
       let here : levels f (later 1 b) ≡ levels f b = q 1 (omega arith) in
       ap (tick_times f n) (tick_quiet b e s here (i 1 (omega arith) (omega arith)))
@@ -188,25 +166,10 @@ module _ {A B C D : Type 0} (f : Fitting A B C D) where
   settled_carried [] b e s = settled_pending [] b s
   settled_carried (w ∷ ws) b e s =
       let written = after_write f w.port w.byte (with_pending ws b) in
-      let due : Counted A B C D = carry_out f ws (handing f (counted written e)) in
-      let outcome : Bool → Counted A B C D = λ t. elim t [ true ↦ due | false ↦ counted (with_pending (w ∷ ws) b) e ] in
-      elim (w.tick == b.time) as (λ t. Settled (outcome t).board) [
-        | true ↦ settled_carried ws (hand f written) (handing f (counted written e)).edges (settled_hand written)
-        | false ↦ settled_pending (w ∷ ws) b s
+      elim (cases_eq w.tick b.time) [
+        | inl due ↦ rw (carry_due w ws b e due) (settled_carried ws (hand f written) (handing f (counted written e)).edges (settled_hand written))
+        | inr later ↦ rw (carry_none (w ∷ ws) b e later) (settled_pending (w ∷ ws) b s)
       ]
-
-  -- A write that is due is carried out, and then the rest.
-  pub carry_due : (w : QueuedWrite) (ws : List QueuedWrite) (b : Board A B C D) (e : ℕ) → w.tick ≡ b.time
-      → carry_out f (w ∷ ws) (counted b e) ≡ carry_out f ws (handing f (counted (after_write f w.port w.byte (with_pending ws b)) e))
-  unfolding carry_out
-  carry_due w ws b e due =
-      ap
-      (λ t.
-      elim t [
-        | true ↦ carry_out f ws (handing f (counted (after_write f w.port w.byte (with_pending ws b)) e))
-        | false ↦ counted (with_pending (w ∷ ws) b) e
-      ])
-      (eq-eqb w.tick b.time due)
 
   -- No access touches the bag.
   pub write_keeps_bag : (t : Target) (v : ℕ) (b : Board A B C D) → (after_write_at f t v b).pending ≡ b.pending
@@ -233,11 +196,9 @@ module _ {A B C D : Type 0} (f : Fitting A B C D) where
   carry_keeps_time [] b e = refl
   carry_keeps_time (w ∷ ws) b e =
       let written = after_write f w.port w.byte (with_pending ws b) in
-      let due : Counted A B C D = carry_out f ws (handing f (counted written e)) in
-      let outcome : Bool → Counted A B C D = λ t. elim t [ true ↦ due | false ↦ counted (with_pending (w ∷ ws) b) e ] in
-      elim (w.tick == b.time) as (λ t. (outcome t).board.time ≡ b.time) [
-        | true ↦ carry_keeps_time ws (hand f written) (handing f (counted written e)).edges ∙ write_keeps_time (target f w.port) w.byte (with_pending ws b)
-        | false ↦ refl
+      elim (cases_eq w.tick b.time) [
+        | inl due ↦ rw (carry_due w ws b e due) (carry_keeps_time ws (hand f written) (handing f (counted written e)).edges ∙ write_keeps_time (target f w.port) w.byte (with_pending ws b))
+        | inr later ↦ rw (carry_none (w ∷ ws) b e later)
       ]
 
   -- The board that a jump of k ticks arrives at, and how many edges were counted there.

@@ -6,7 +6,8 @@ ghost use Rattle.rules.specs.TickLaws.{divided_announcement, divided_lawful};
 use crate::device::{Device, HORIZON};
 
 // The phase counts the ticks since the inner device's last one. The tick that brings it to the factor makes the inner device
-// tick, and the phase starts again at 0.
+// tick, and the phase starts again at 0. It has no `impl Model`: its value would be made of the inner device's state, and a model's
+// `Value` cannot name what belongs to a bound.
 #[derive(Drop)]
 pub struct Divider<D> {
     factor: u64,
@@ -15,7 +16,7 @@ pub struct Divider<D> {
     ghost bounded: { (1 ≤ factor) × (factor ≤ 64) × (phase < factor) },
 }
 
-// How often the divisor goes into the dividend, and what is left.
+// How often the divisor goes into the dividend, and what is left: its clauses are what the proof of a skip has to know of a division.
 fn quotient_and_remainder(dividend: u64, divisor: u64) -> (u64, u64)
     requires { 1 ≤ divisor }
     ensures quotient { result.0 ≡ dividend / divisor }
@@ -26,22 +27,12 @@ fn quotient_and_remainder(dividend: u64, divisor: u64) -> (u64, u64)
     (dividend / divisor, dividend % divisor)
 }
 
-// After how many ticks the inner device has ticked `inner_ticks` times, if not past the horizon. On the way there the number
-// can be 64 times the horizon.
-fn due(inner_ticks: u64, factor: u64, phase: u64) -> Option<u64>
-    requires { (1 ≤ inner_ticks) × (inner_ticks ≤ horizon) × (phase < factor) × (factor ≤ 64) }
-    ensures { result ≡ divided_announcement factor phase (Some inner_ticks) }
-{
-    let ticks = inner_ticks * factor - phase;
-    if ticks <= HORIZON { Some(ticks) } else { None }
-}
-
 impl<D: Device> Divider<D> {
     // Starts at phase 0. A factor outside 1 to 64 is taken as 1.
     pub fn new(factor: u64, inner: D) -> Self
         ensures { record { factor = result.factor; phase = result.phase; inner = D.Device.state result.inner } ≡ divide factor (D.Device.state inner) }
     {
-        let factor = if 1 <= factor && factor <= 64 {
+        let factor = if (1..=64).contains(&factor) {
             factor
         } else {
             1
@@ -52,20 +43,28 @@ impl<D: Device> Divider<D> {
             inner,
         }
     }
+
+    // After how many ticks the inner device has ticked `inner_ticks` times, if not past the horizon. On the way there the number
+    // can be 64 times the horizon.
+    fn due(&self, inner_ticks: u64) -> Option<u64>
+        requires { (1 ≤ inner_ticks) × (inner_ticks ≤ horizon) }
+        ensures { result ≡ divided_announcement self.now.factor self.now.phase (Some inner_ticks) }
+    {
+        let ticks = inner_ticks * self.factor - self.phase;
+        (ticks <= HORIZON).then_some(ticks)
+    }
 }
 
 impl<D: Device> Device for Divider<D> {
     const WIDTH: u16 = D::WIDTH;
+
+    ghost WIDTH = { D.Device.WIDTH };
 
     ghost State = { Divided D.Device.State };
 
     ghost meaning = { divided D.Device.meaning };
 
     ghost state = { λ d. record { factor = d.factor; phase = d.phase; inner = D.Device.state d.inner } };
-
-    fn ports() -> u16 {
-        D::ports()
-    }
 
     fn skip(&mut self, n: u64) {
         let n = n.min(HORIZON);
@@ -75,10 +74,8 @@ impl<D: Device> Device for Divider<D> {
     }
 
     fn announce(&self) -> Option<u64> {
-        match self.inner.announce() {
-            Some(inner_ticks) => due(inner_ticks, self.factor, self.phase),
-            None => None,
-        }
+        let inner_ticks = self.inner.announce()?;
+        self.due(inner_ticks)
     }
 
     fn level(&self) -> bool {
@@ -92,6 +89,8 @@ impl<D: Device> Device for Divider<D> {
     fn write(&mut self, offset: u16, byte: u8) {
         self.inner.write(offset, byte);
     }
+
+    ghost width_meant = { D.Device.width_meant };
 
     ghost lawful = { divided_lawful D.Device.meaning D.Device.lawful };
 }

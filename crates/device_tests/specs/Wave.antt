@@ -1,5 +1,5 @@
 -- A square wave, one tick at a time.
-use Rattle.std.specs.Prelude.{ℕ, ◌+◌, ◌-◌, ◌%◌, Bool, false, cond, not, ◌==◌, nat_lt}
+use Rattle.std.specs.Prelude.{ℕ, ◌+◌, ◌-◌, Bool, false, cond, not, ◌==◌, nat_lt}
 use Rattle.rules.specs.Device.{Meaning}
 
 pub record Wave : Type 0 where
@@ -29,7 +29,3 @@ square_wave = record {
   after_read = λ w offset. w;
   after_write = write_wave;
 }
-
--- The level after it has turned so many times.
-abbrev pub turned_times : ℕ → Bool → Bool
-turned_times n high = cond (n % 2 == 0) high (not high)

@@ -79,6 +79,9 @@ fn accesses(rt: HostRuntime) {
     d.write(0, 9);
     d.write(1, 3);
     assert_eq!(rt; seen(&mut d), (false, Some(115), 9));
+    let mut wave = SquareWave::new(9);
+    wave.skip(13);
+    assert_eq!(rt; wave.progress(), (10, 3));
     assert_eq!(rt; d.read(1), 0xFF);
 }
 
@@ -89,5 +92,4 @@ fn empty(rt: HostRuntime) {
     d.skip(5);
     assert_eq!(rt; seen(&mut d), (false, None, 0xFF));
     assert_eq!(rt; <Divider<Empty> as Device>::WIDTH, 1);
-    assert_eq!(rt; <Divider<Empty> as Device>::ports(), 1);
 }

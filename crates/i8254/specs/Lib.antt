@@ -1,2 +1,3 @@
+pub mod Control
 pub mod Ports
 pub mod Views

@@ -1,6 +1,6 @@
 -- The timer has four ports, and nothing happens past them.
-use Rattle.std.proofs.Common.{refl, arith}
-use Rattle.std.proofs.lemmas.Bool.{ne_eqb}
+use Rattle.std.proofs.Common.{arith}
+use Rattle.std.proofs.lemmas.Bool.Decides.{nat_tests}
 use Rattle.rules.specs.Device.{Lawful}
 use Rattle.rules.specs.I8254.{timer}
 
@@ -8,7 +8,7 @@ pub timer_lawful : Lawful timer
 timer_lawful = record {
   some_port = omega arith;
   few_ports = omega arith;
-  past_reads = λ t offset past. rw (ne_eqb offset 0 (λ e. omega arith), ne_eqb offset 1 (λ e. omega arith), ne_eqb offset 2 (λ e. omega arith)) refl;
-  past_read_keeps = λ t offset past. rw (ne_eqb offset 0 (λ e. omega arith), ne_eqb offset 1 (λ e. omega arith), ne_eqb offset 2 (λ e. omega arith)) refl;
-  past_write_keeps = λ t offset byte past. rw (ne_eqb offset 3 (λ e. omega arith), ne_eqb offset 0 (λ e. omega arith), ne_eqb offset 1 (λ e. omega arith), ne_eqb offset 2 (λ e. omega arith)) refl;
+  past_reads = λ t offset past. grind (arith, nat_tests);
+  past_read_keeps = λ t offset past. grind (arith, nat_tests);
+  past_write_keeps = λ t offset byte past. grind (arith, nat_tests);
 }

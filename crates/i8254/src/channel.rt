@@ -1,29 +1,17 @@
 // A channel: a counting element behind the bytes that a program writes and reads.
-ghost use Rattle.std.specs.Prelude.{◌≡◌, ◌/◌, ◌%◌, ◌<◌};
+ghost use Rattle.std.specs.Prelude.{◌≡◌};
 ghost use Rattle.rules.specs.Device.{Announces, ticks};
-ghost use Rattle.rules.specs.I8254.{after_read_count, byte_of_count, control, latch_count, mode_meant, power_on_channel, program, shown, write_count};
+ghost use Rattle.rules.specs.I8254.{after_read_count, byte_of_count, latch_count, power_on_channel, program, shown, write_count};
 ghost use Rattle.i8254_laws.specs.Machines.{channel};
 ghost use Rattle.i8254_laws.specs.Runs.{held};
-ghost use Rattle.i8254.specs.Views.{view_access, view_channel};
+ghost use Rattle.i8254.specs.Control.{view_access, view_mode, effect};
+ghost use Rattle.i8254.specs.Views.{view_channel};
 
-use crate::counter::{Counter, Run};
+use crate::control::{Access, Command, Mode};
+use crate::counter::Counter;
 
-// Bits 5 and 4 of a control word; the fourth code asks for both bytes.
-const LATCH: u8 = 0;
-
-const LOW_ONLY: u8 = 1;
-
-const HIGH_ONLY: u8 = 2;
-
-// Which bytes of a count are written and read.
-#[derive(Clone, Copy)]
-pub enum Access {
-    LowOnly,
-    HighOnly,
-    LowThenHigh,
-}
-
-#[derive(Clone, Copy)]
+// A `view_channel` and no Model, for the reason given at `Timer`.
+#[derive(Clone, Copy, Debug, PartialEq, Eq)]
 pub struct Channel {
     access: Access,
     // The low byte of a count whose high byte is still to be written.
@@ -35,20 +23,6 @@ pub struct Channel {
     counter: Counter,
 }
 
-// Bits 5 and 4 of a control word.
-fn access_code(word: u8) -> u8
-    ensures { result ≡ word / 16 % 4 }
-{
-    (word >> 4) & 0b11
-}
-
-// Bits 3 to 1 of a control word.
-fn mode_bits(word: u8) -> u8
-    ensures { result ≡ word / 2 % 8 }
-{
-    (word >> 1) & 0b111
-}
-
 impl Channel {
     pub fn power_on() -> Channel
         ensures { view_channel result ≡ power_on_channel }
@@ -58,14 +32,7 @@ impl Channel {
             low_byte: None,
             high_next: false,
             latch: None,
-            counter: Counter {
-                value: 0,
-                run: Run::TerminalCount {
-                    out: false,
-                    loaded: false,
-                    waiting: None,
-                },
-            },
+            counter: Counter::new(Mode::TerminalCount, 0),
         }
     }
 
@@ -73,34 +40,28 @@ impl Channel {
     fn shown(&self) -> u16
         ensures { result ≡ shown (view_channel self.now) }
     {
-        match self.latch {
-            Some(count) => count,
-            None => self.counter.value,
-        }
+        self.latch.unwrap_or(self.counter.value())
     }
 
     // A byte written to the count.
     pub fn write_count(&mut self, byte: u8)
         ensures { view_channel self.new ≡ write_count byte (view_channel self.old) }
     {
-        match (self.access, self.low_byte) {
-            (Access::LowOnly, _) => {
-                self.counter = self.counter.first_byte().complete(u16::from(byte));
-            }
-            (Access::HighOnly, _) => {
-                self.counter = self.counter.first_byte().complete(256 * u16::from(byte));
-            }
+        self.counter = match (self.access, self.low_byte) {
+            (Access::LowOnly, _) => self.counter.first_byte().complete(u16::from(byte)),
+            (Access::HighOnly, _) => self
+                .counter
+                .first_byte()
+                .complete(u16::from_le_bytes([0, byte])),
             (Access::LowThenHigh, None) => {
                 self.low_byte = Some(byte);
-                self.counter = self.counter.first_byte();
+                self.counter.first_byte()
             }
             (Access::LowThenHigh, Some(low)) => {
                 self.low_byte = None;
-                self.counter = self
-                    .counter
-                    .complete(u16::from(low) + 256 * u16::from(byte));
+                self.counter.complete(u16::from_le_bytes([low, byte]))
             }
-        }
+        };
     }
 
     // Reads a byte of the count. Two bytes come in turn, and a latched count drops with its last one.
@@ -108,34 +69,35 @@ impl Channel {
         ensures gives { result ≡ byte_of_count (view_channel self.old) }
         ensures leaves { view_channel self.new ≡ after_read_count (view_channel self.old) }
     {
-        let shown = self.shown();
-        let (high, last) = match self.access {
-            Access::LowOnly => (false, true),
-            Access::HighOnly => (true, true),
-            Access::LowThenHigh => (self.high_next, self.high_next),
-        };
-        if let Access::LowThenHigh = self.access {
-            self.high_next = !self.high_next;
-        }
-        if last {
-            self.latch = None;
-        }
-        if high {
-            (shown >> 8) as u8
-        } else {
-            (shown % 256) as u8
+        let [low, high] = self.shown().to_le_bytes();
+        match self.access {
+            Access::LowOnly => {
+                self.latch = None;
+                low
+            }
+            Access::HighOnly => {
+                self.latch = None;
+                high
+            }
+            Access::LowThenHigh if self.high_next => {
+                self.high_next = false;
+                self.latch = None;
+                high
+            }
+            Access::LowThenHigh => {
+                self.high_next = true;
+                low
+            }
         }
     }
 
     // A control word that names this channel: it latches the counter, or programs the channel.
-    pub fn control(&mut self, word: u8)
-        ensures { view_channel self.new ≡ control word (view_channel self.old) }
+    pub fn control(&mut self, command: Command)
+        ensures { view_channel self.new ≡ effect command (view_channel self.old) }
     {
-        match access_code(word) {
-            LATCH => self.latch(),
-            LOW_ONLY => self.program(Access::LowOnly, mode_bits(word)),
-            HIGH_ONLY => self.program(Access::HighOnly, mode_bits(word)),
-            _ => self.program(Access::LowThenHigh, mode_bits(word)),
+        match command {
+            Command::Latch => self.latch(),
+            Command::Program { access, mode } => self.program(access, mode),
         }
     }
 
@@ -146,26 +108,24 @@ impl Channel {
         self.latch = Some(self.shown());
     }
 
-    // Both byte toggles go to low; the latch and the counts are dropped.
-    fn program(&mut self, access: Access, mode_bits: u8)
-        requires { mode_bits < 8 }
-        ensures { view_channel self.new ≡ program (view_access access) (mode_meant mode_bits) (view_channel self.old) }
+    // Both byte toggles go to low; the latch and the counts are dropped. The counter keeps its value.
+    fn program(&mut self, access: Access, mode: Mode)
+        ensures { view_channel self.new ≡ program (view_access access) (view_mode mode) (view_channel self.old) }
     {
-        self.access = access;
-        self.low_byte = None;
-        self.high_next = false;
-        self.latch = None;
-        self.counter = self.counter.program(mode_bits);
+        *self = Channel {
+            access,
+            low_byte: None,
+            high_next: false,
+            latch: None,
+            counter: Counter::new(mode, self.counter.value()),
+        };
     }
 
     // In mode 0, between the two bytes of a count, nothing loads or counts.
     fn is_held(&self) -> bool
         ensures { result ≡ held (view_channel self.now) }
     {
-        match self.low_byte {
-            Some(_) => self.counter.is_mode_0(),
-            None => false,
-        }
+        self.low_byte.is_some() && self.counter.is_mode_0()
     }
 
     // n ticks pass.

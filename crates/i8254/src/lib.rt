@@ -2,12 +2,14 @@
 #![tactic(auto)]
 
 mod channel;
+mod control;
 mod count;
 mod counter;
 mod mode_0;
 mod mode_2;
 mod mode_3;
 mod timer;
+mod unloaded;
 mod waves;
 
 pub use timer::Timer;

@@ -1,66 +1,92 @@
 // Mode 0, interrupt on terminal count.
-ghost use Rattle.std.specs.Prelude.{◌≡◌, ◌≤◌, true, None};
+ghost use Rattle.std.specs.Prelude.{◌≡◌, true, false, None};
 ghost use Rattle.rules.specs.Device.{Announces, ticks};
-ghost use Rattle.rules.specs.I8254.{mode_0};
+ghost use Rattle.rules.specs.I8254.{complete, first_byte};
 ghost use Rattle.i8254_laws.specs.Counters.{mode_0_counter};
 ghost use Rattle.i8254_laws.specs.Machines.{counting};
-ghost use Rattle.i8254.specs.Views.{meant, view_counter};
+ghost use Rattle.i8254.specs.Views.{view_terminal_count};
 
-use crate::count::{MODULUS, held, ticks_to_zero};
-use crate::counter::{Counter, Run};
+use crate::count::{less, ticks_to_zero};
 
-// A counter that counts, n ticks later.
-fn count_down(out: bool, value: u16, n: u64) -> Counter
-    ensures { view_counter result ≡ ticks counting n (mode_0_counter out true None value) }
-{
-    let risen = ticks_to_zero(value) <= n;
-    Counter {
-        value: held(u64::from(value) + MODULUS - n % MODULUS),
-        run: Run::TerminalCount {
-            out: out || risen,
-            loaded: true,
-            waiting: None,
-        },
-    }
+// A complete count waits for the tick that loads it; then the counter goes down for ever, and OUT goes high when it comes to 0.
+#[derive(Clone, Copy, Debug, PartialEq, Eq)]
+pub struct TerminalCount {
+    pub value: u16,
+    pub out: bool,
+    // A count has been loaded since the control word; a further one may be waiting then, so this is no part of `waiting`.
+    pub loaded: bool,
+    // The count that is still to be loaded, as written.
+    pub waiting: Option<u16>,
 }
 
-// n ticks later: a waiting count loads, and then the counter goes down for ever.
-pub fn terminal_count(out: bool, loaded: bool, waiting: Option<u16>, value: u16, n: u64) -> Counter
-    requires { 1 ≤ n }
-    ensures { view_counter result ≡ ticks counting n (mode_0_counter out loaded (meant mode_0 waiting) value) }
-{
-    match waiting {
-        Some(count) => count_down(out, count, n - 1),
-        None => {
-            if loaded {
-                return count_down(out, value, n);
-            }
-            Counter {
-                value,
-                run: Run::TerminalCount {
-                    out,
-                    loaded,
-                    waiting,
-                },
-            }
+impl TerminalCount {
+    // After the control word.
+    pub fn new(value: u16) -> Self
+        ensures { view_terminal_count result ≡ mode_0_counter false false None value }
+    {
+        TerminalCount {
+            value,
+            out: false,
+            loaded: false,
+            waiting: None,
         }
     }
-}
 
-// When OUT rises. Once it is high, no tick puts it low.
-pub fn rise(out: bool, loaded: bool, waiting: Option<u16>, value: u16) -> Option<u64>
-    ensures { Announces counting (mode_0_counter out loaded (meant mode_0 waiting) value) result }
-{
-    if out {
-        return None;
+    // The first or only byte of a count puts OUT low.
+    pub fn first_byte(self) -> Self
+        ensures { view_terminal_count result ≡ first_byte (view_terminal_count self) }
+    {
+        Self { out: false, ..self }
     }
-    match waiting {
-        Some(count) => Some(ticks_to_zero(count) + 1),
-        None => {
-            if loaded {
-                return Some(ticks_to_zero(value));
-            }
-            None
+
+    // The count as written is the newest complete one.
+    pub fn complete(self, written: u16) -> Self
+        ensures { view_terminal_count result ≡ complete written (view_terminal_count self) }
+    {
+        Self {
+            waiting: Some(written),
+            ..self
+        }
+    }
+
+    // A counter that counts, n ticks after it holds this value.
+    fn count_down(self, value: u16, n: u64) -> Self
+        ensures { view_terminal_count result ≡ ticks counting n (mode_0_counter self.out true None value) }
+    {
+        let risen = ticks_to_zero(value) <= n;
+        TerminalCount {
+            value: less(n, value),
+            out: self.out || risen,
+            loaded: true,
+            waiting: None,
+        }
+    }
+
+    // n ticks later: a waiting count loads first.
+    pub fn after(self, n: u64) -> Self
+        ensures { view_terminal_count result ≡ ticks counting n (view_terminal_count self) }
+    {
+        match self.waiting {
+            Some(count) => match n.checked_sub(1) {
+                Some(rest) => self.count_down(count, rest),
+                None => self,
+            },
+            None if self.loaded => self.count_down(self.value, n),
+            None => self,
+        }
+    }
+
+    // When OUT rises. Once it is high, no tick puts it low.
+    pub fn announce(self) -> Option<u64>
+        ensures { Announces counting (view_terminal_count self) result }
+    {
+        if self.out {
+            return None;
+        }
+        match self.waiting {
+            Some(count) => Some(ticks_to_zero(count) + 1),
+            None if self.loaded => Some(ticks_to_zero(self.value)),
+            None => None,
         }
     }
 }

@@ -1,30 +1,73 @@
 // Mode 2, rate generator, from the first load on.
-ghost use Rattle.std.specs.Prelude.{◌≡◌, Some};
+ghost use Rattle.std.specs.Prelude.{◌≡◌, ◌%◌, ◌==◌, not, Some};
 ghost use Rattle.rules.specs.Device.{Announces, ticks};
-ghost use Rattle.rules.specs.I8254.{count_meant, mode_2};
+ghost use Rattle.rules.specs.I8254.{complete};
 ghost use Rattle.i8254_laws.specs.Counters.{mode_2_counter};
 ghost use Rattle.i8254_laws.specs.Machines.{counting};
+ghost use Rattle.i8254.specs.Views.{view_rate};
 
-use crate::count::{held, period, ticks_to_zero};
+use crate::count::{Period, ticks_to_zero};
+use device::bits_of;
 
-// The value n ticks later. The present period may belong to an older count than the later ones.
-pub fn rate_value(value: u16, count: u16, n: u64) -> u16
-    ensures { mode_2_counter (count_meant mode_2 count) result ≡ ticks counting n (mode_2_counter (count_meant mode_2 count) value) }
-{
-    let to_load = ticks_to_zero(value);
-    if n < to_load {
-        return held(to_load - n);
-    }
-    let period = period(count);
-    held(period - (n - to_load) % period)
+// OUT is low while the counter is at 1.
+#[derive(Clone, Copy, Debug, PartialEq, Eq)]
+pub struct Rate {
+    pub value: u16,
+    // Of the newest complete count, which the next load takes.
+    pub period: Period,
 }
 
-// When OUT changes: it falls when the counter comes to 1, and rises with the next load, whatever the count.
-pub fn rate_change(value: u16, _count: u16) -> u64
-    ensures { Announces counting (mode_2_counter (count_meant mode_2 _count) value) (Some result) }
-{
-    if value == 1 {
-        return 1;
+impl Rate {
+    // After the load of a count.
+    pub fn loaded(period: Period) -> Self
+        ensures { view_rate result ≡ mode_2_counter period.ticks (period.ticks % 65536) }
+    {
+        Rate {
+            value: bits_of(period.ticks()),
+            period,
+        }
     }
-    ticks_to_zero(value) - 1
+
+    // The level of OUT.
+    pub fn out(self) -> bool
+        ensures { result ≡ not (self.value == 1) }
+    {
+        self.value != 1
+    }
+
+    // The count as written is the newest complete one. `Square` has the same method, and no trait has both: `Counter` knows which
+    // one it calls, so a trait would add its declaration, two impls and two laws and take nothing away.
+    pub fn complete(self, written: u16) -> Self
+        ensures { view_rate result ≡ complete written (view_rate self) }
+    {
+        Self {
+            period: Period::from(written),
+            ..self
+        }
+    }
+
+    // n ticks later. The present period may belong to an older count than the later ones.
+    pub fn after(self, n: u64) -> Self
+        ensures { view_rate result ≡ ticks counting n (view_rate self) }
+    {
+        let to_load = ticks_to_zero(self.value);
+        let period = self.period.ticks();
+        let value = if n < to_load {
+            bits_of(to_load - n)
+        } else {
+            bits_of(period - (n - to_load) % period)
+        };
+        Self { value, ..self }
+    }
+
+    // When OUT changes: it falls when the counter comes to 1, and rises with the next load.
+    pub fn announce(self) -> u64
+        ensures { Announces counting (view_rate self) (Some result) }
+    {
+        if self.value == 1 {
+            1
+        } else {
+            ticks_to_zero(self.value) - 1
+        }
+    }
 }

@@ -1,25 +1,23 @@
 // The timer: three channels at four ports.
-ghost use Rattle.std.specs.Prelude.{◌≡◌, ◌/◌};
+ghost use Rattle.std.specs.Prelude.{◌≡◌, ◌/◌, refl};
 ghost use Rattle.rules.specs.I8254 as rules;
 ghost use Rattle.rules.specs.I8254.{at_channel, control, power_on_timer, timer};
 ghost use Rattle.i8254.specs.Views.{view};
 ghost use Rattle.i8254.specs.Ports.{timer_lawful};
 
 use crate::channel::Channel;
-use device::{Device, HORIZON};
+use crate::control::Command;
+use device::{Device, HORIZON, NO_BYTE};
 
-#[derive(Clone, Copy)]
+// Contracts see it by `view`: a Model of a type that is Copy needs a way back from the rules' state, and a count that waits in
+// mode 2 means the same written as 1 or as 2.
+#[derive(Clone, Copy, Debug, PartialEq, Eq)]
 pub struct Timer {
-    channel_0: Channel,
-    channel_1: Channel,
-    channel_2: Channel,
+    channels: [Channel; 3],
 }
 
 // The port after those of the three counts.
 const CONTROL_PORT: u16 = 3;
-
-// What a port that shows no count reads as.
-const NO_BYTE: u8 = 0xFF;
 
 impl Timer {
     // Every channel takes two bytes, is in mode 0 with OUT low, and stands still at 0.
@@ -27,20 +25,17 @@ impl Timer {
         ensures { view result ≡ power_on_timer }
     {
         Timer {
-            channel_0: Channel::power_on(),
-            channel_1: Channel::power_on(),
-            channel_2: Channel::power_on(),
+            channels: [Channel::power_on(); 3],
         }
     }
 
-    // A control word, whose bits 7 and 6 name its channel; there is no channel 3.
+    // A control word, whose bits 7 and 6 name its channel; there is no channel 3. Channels are taken by index here and below, since
+    // nothing is known of what `get_mut` lends once it is written.
     fn control(&mut self, word: u8)
         ensures { view self.new ≡ at_channel (word / 64) (control word) (view self.old) }
     {
         match word >> 6 {
-            0 => self.channel_0.control(word),
-            1 => self.channel_1.control(word),
-            2 => self.channel_2.control(word),
+            number @ 0..=2 => self.channels[usize::from(number)].control(Command::from(word)),
             _ => {}
         }
     }
@@ -49,49 +44,45 @@ impl Timer {
 impl Device for Timer {
     const WIDTH: u16 = 4;
 
+    ghost WIDTH = { 4 };
+
     ghost State = { rules.Timer };
 
     ghost meaning = { timer };
 
     ghost state = { view };
 
-    fn ports() -> u16 {
-        Self::WIDTH
-    }
-
     fn skip(&mut self, n: u64) {
-        let n = n.min(HORIZON);
-        self.channel_0.skip(n);
-        self.channel_1.skip(n);
-        self.channel_2.skip(n);
+        let ticks = n.min(HORIZON);
+        for channel in &mut self.channels {
+            channel.skip(ticks);
+        }
     }
 
     fn announce(&self) -> Option<u64> {
-        self.channel_0.announce()
+        self.channels[0].announce()
     }
 
     fn level(&self) -> bool {
-        self.channel_0.out()
+        self.channels[0].out()
     }
 
     fn read(&mut self, offset: u16) -> u8 {
         match offset {
-            0 => self.channel_0.read_count(),
-            1 => self.channel_1.read_count(),
-            2 => self.channel_2.read_count(),
+            0..CONTROL_PORT => self.channels[usize::from(offset)].read_count(),
             _ => NO_BYTE,
         }
     }
 
     fn write(&mut self, offset: u16, byte: u8) {
         match offset {
-            0 => self.channel_0.write_count(byte),
-            1 => self.channel_1.write_count(byte),
-            2 => self.channel_2.write_count(byte),
+            0..CONTROL_PORT => self.channels[usize::from(offset)].write_count(byte),
             CONTROL_PORT => self.control(byte),
             _ => {}
         }
     }
+
+    ghost width_meant = { refl };
 
     ghost lawful = { timer_lawful };
 }

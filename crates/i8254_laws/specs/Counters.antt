@@ -1,6 +1,10 @@
 -- Counters by what they do, each with the value v in it.
-use Rattle.std.specs.Prelude.{ℕ, Bool, true, false, not, Some, Option, ◌==◌}
+use Rattle.std.specs.Prelude.{ℕ, ◌+◌, ◌-◌, ◌%◌, Bool, true, false, not, Some, Option, ◌==◌}
 use Rattle.rules.specs.I8254.{Counter, Mode, mode_0, mode_2, mode_3}
+
+-- The value v gone down by k.
+abbrev pub less : ℕ → ℕ → ℕ
+less k v = (v + 65536 - k % 65536) % 65536
 
 -- Mode 0, with the count that waits for the next tick.
 abbrev pub mode_0_counter : Bool → Bool → Option ℕ → ℕ → Counter

@@ -2,50 +2,25 @@
 -- high after r ticks.
 use Rattle.std.specs.Prelude.{◌≡◌, ℕ, zero, suc, ◌+◌, ◌-◌, ◌%◌, ◌<◌, ◌≤◌, Bool, true, false, ◌||◌, Some, None, Option, nat_le, refl}
 use Rattle.std.proofs.Common.{sym, ap, ◌∙◌, ⊎_elim, arith}
-use Rattle.std.proofs.lemmas.Bool.{ne_eqb, true≢false, cases_lt, cases_eq, le-leb, lt-leb}
+use Rattle.std.proofs.Math.Bool.{or-false, or-true}
+use Rattle.std.proofs.lemmas.Bool.{ne_eqb, true≢false, cases_lt, le-leb, lt-leb}
+use Rattle.std.proofs.lemmas.Bool.Decides.{nat_tests}
 use Rattle.rules.specs.Device.{ticks, Announces}
-use Rattle.rules.specs.TickLaws.{ticks_add, ticks_first}
+use Rattle.rules.specs.TickLaws.{ticks_first, still_announces}
 use Rattle.rules.specs.I8254.{Counter, tick_counter, down, count_meant, mode_0}
 use Rattle.i8254_laws.specs.Machines.{counting}
-use Rattle.i8254_laws.specs.Counters.{mode_0_counter}
-use Rattle.i8254_laws.specs.Runs.{announces_later, still_announces}
+use Rattle.i8254_laws.specs.Counters.{less, mode_0_counter}
+use Rattle.i8254_laws.specs.Runs.{in_parts, announces_later}
 
--- A counter that counts, and k less than v for any k.
+-- A counter that counts.
 abbrev pub running : Bool → ℕ → Counter
 running out v = mode_0_counter out true None v
-
-abbrev pub less : ℕ → ℕ → ℕ
-less k v = (v + 65536 - k % 65536) % 65536
-
-or_false : (b : Bool) → (b || false) ≡ b
-or_false true = refl
-or_false false = refl
-
-or_true : (b : Bool) → (b || true) ≡ true
-or_true true = refl
-or_true false = refl
-
--- One less, and then k less, is k + 1 less.
-less_down : (m v : ℕ) → m ≤ 65535 → (down 1 v + 65536 - m) % 65536 ≡ (v + 65536 - (m + 1)) % 65536
-less_down m v h = omega arith
-
-less_suc : (k v : ℕ) → v < 65536 → less k (down 1 v) ≡ less (suc k) v
-less_suc k v h = ⊎_elim below last (cases_lt (k % 65536) 65535)
-  where
-    below : k % 65536 < 65535 → less k (down 1 v) ≡ less (suc k) v
-    below b = let e : suc k % 65536 ≡ k % 65536 + 1 = omega arith in rw e (less_down (k % 65536) v (omega arith))
-
-    last : 65535 ≤ k % 65536 → less k (down 1 v) ≡ less (suc k) v
-    last b =
-        let e : suc k % 65536 ≡ 0 = omega arith in
-        let f : k % 65536 ≡ 65535 = omega arith in
-        rw (e, f) (less_down 65535 v (omega arith) ∙ omega arith)
 
 -- Once OUT is high it stays high.
 pub risen : (k v : ℕ) → v < 65536 → ticks counting k (running true v) ≡ running true (less k v)
 unfolding ticks
 risen zero v h = let e : v ≡ less 0 v = omega arith in ap (running true) e
-risen (suc k) v h = risen k (down 1 v) (omega arith) ∙ ap (running true) (less_suc k v h)
+risen (suc k) v h = let e : less k (down 1 v) ≡ less (suc k) v = omega arith in risen k (down 1 v) (omega arith) ∙ ap (running true) e
 
 -- Before the counter comes to 0.
 pub terminal_before : (k r : ℕ) (out : Bool) → k < r → r ≤ 65536 → ticks counting k (running out (r % 65536)) ≡ running out ((r - k) % 65536)
@@ -55,7 +30,7 @@ terminal_before (suc k) r out h many =
     let v : down 1 (r % 65536) ≡ (r - 1) % 65536 = omega arith in
     let e : r - 1 - k ≡ r - suc k = omega arith in
     let some : (r - 1) % 65536 ≡ 0 → ⊥ = λ z. omega arith in
-    ap (ticks counting k) (rw (v, ne_eqb ((r - 1) % 65536) 0 some, or_false out))
+    ap (ticks counting k) (rw (v, ne_eqb ((r - 1) % 65536) 0 some, or-false out))
     ∙ terminal_before k (r - 1) out (omega arith) (omega arith)
     ∙ ap (λ x. running out (x % 65536)) e
 
@@ -63,18 +38,14 @@ terminal_before (suc k) r out h many =
 rises : (r : ℕ) (out : Bool) → 1 ≤ r → r ≤ 65536 → ticks counting r (running out (r % 65536)) ≡ running true 0
 unfolding ticks
 rises r out some many =
-    let last : r ≡ r - 1 + 1 = omega arith in
     let one : (r - (r - 1)) % 65536 ≡ 1 = omega arith in
-    ap (λ k. ticks counting k (running out (r % 65536))) last
-    ∙ ticks_add counting (r - 1) 1 (running out (r % 65536))
+    in_parts counting r (r - 1) 1 (running out (r % 65536)) (omega arith)
     ∙ ap tick_counter (terminal_before (r - 1) r out (omega arith) many ∙ ap (running out) one)
-    ∙ ap (λ b. running b 0) (or_true out)
+    ∙ ap (λ b. running b 0) (or-true out)
 
 pub terminal_after : (k r : ℕ) (out : Bool) → r ≤ k → 1 ≤ r → r ≤ 65536 → ticks counting k (running out (r % 65536)) ≡ running true (less (k - r) 0)
 terminal_after k r out h some many =
-    let parts : k ≡ r + (k - r) = omega arith in
-    ap (λ j. ticks counting j (running out (r % 65536))) parts
-    ∙ ticks_add counting r (k - r) (running out (r % 65536))
+    in_parts counting k r (k - r) (running out (r % 65536)) (omega arith)
     ∙ ap (ticks counting (k - r)) (rises r out some many)
     ∙ risen (k - r) 0 (omega arith)
 
@@ -85,14 +56,12 @@ terminal k r out some many = ⊎_elim before after (cases_lt k r)
     before : k < r → ticks counting k (running out (r % 65536)) ≡ running (out || nat_le r k) (less k (r % 65536))
     before h =
         let e : (r - k) % 65536 ≡ less k (r % 65536) = omega arith in
-        rw (lt-leb r k h, or_false out) (terminal_before k r out h many ∙ ap (running out) e)
+        rw (lt-leb r k h, or-false out) (terminal_before k r out h many ∙ ap (running out) e)
 
     after : r ≤ k → ticks counting k (running out (r % 65536)) ≡ running (out || nat_le r k) (less k (r % 65536))
     after h =
-        rw (le-leb r k h, or_true out) (terminal_after k r out h some many ∙ ap (running true) (same (k - r) r k (omega arith)))
-      where
-        same : (j r k : ℕ) → k ≡ j + r → less j 0 ≡ less k (r % 65536)
-        same j r k e = omega arith
+        let e : less (k - r) 0 ≡ less k (r % 65536) = omega arith in
+        rw (le-leb r k h, or-true out) (terminal_after k r out h some many ∙ ap (running true) e)
 
 -- A waiting count loads first.
 pub terminal_loads : (k n v : ℕ) (out loaded : Bool) → ticks counting (k + 1) (mode_0_counter out loaded (Some n) v) ≡ ticks counting k (running out (n % 65536))
@@ -100,7 +69,7 @@ terminal_loads k n v out loaded = ticks_first counting k (mode_0_counter out loa
 
 -- A count as written, below 65,536, is what the counter holds when it is loaded.
 pub written_held : (w : ℕ) → w < 65536 → count_meant mode_0 w % 65536 ≡ w
-written_held w h = ⊎_elim (λ e. rw e) (λ f. rw (ne_eqb w 0 f) (omega arith)) (cases_eq w 0)
+written_held w h = grind (arith, nat_tests)
 
 pub terminal_waiting : (k w v : ℕ) (out loaded : Bool) → 1 ≤ k → w < 65536 → ticks counting k (mode_0_counter out loaded (Some (count_meant mode_0 w)) v) ≡ ticks counting (k - 1) (running out w)
 terminal_waiting k w v out loaded some h =

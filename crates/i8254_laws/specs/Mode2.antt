@@ -1,29 +1,23 @@
 -- Mode 2: the counter goes down from its count to 1 and loads the count again. With a value v that stands for r, 1 to 65,536,
 -- r ticks pass until the next load.
-use Rattle.std.specs.Prelude.{◌≡◌, ℕ, zero, suc, ◌+◌, ◌-◌, ◌%◌, ◌<◌, ◌≤◌, true, false, not, Some, ◌==◌, ◌≢◌, refl}
-use Rattle.std.proofs.Common.{sym, ap, ◌∙◌, ⊎_elim, mod-lt, arith}
-use Rattle.std.proofs.lemmas.Bool.{ne_eqb, eq-eqb, true≢false, false≢true, cases_eq}
+use Rattle.std.specs.Prelude.{◌≡◌, ℕ, zero, suc, ◌+◌, ◌-◌, ◌%◌, ◌<◌, ◌≤◌, true, false, not, Some, ◌==◌, refl}
+use Rattle.std.proofs.Common.{sym, ap, ◌∙◌, mod-lt, arith}
+use Rattle.std.proofs.lemmas.Bool.{eq-eqb, true≢false, false≢true}
+use Rattle.std.proofs.lemmas.Bool.Decides.{nat_tests}
 use Rattle.rules.specs.Device.{ticks, level_after, Announces}
-use Rattle.rules.specs.TickLaws.{ticks_add, ticks_first}
+use Rattle.rules.specs.TickLaws.{ticks_first}
 use Rattle.rules.specs.I8254.{tick_counter, mode_2, down, count_meant}
 use Rattle.i8254_laws.specs.Machines.{counting}
 use Rattle.i8254_laws.specs.Counters.{unloaded, mode_2_counter}
-use Rattle.i8254_laws.specs.Runs.{periodic, announces_later}
+use Rattle.i8254_laws.specs.Runs.{in_parts, periodic, announces_later}
 
 -- A count as written, below 65,536, means 2 to 65,536 in modes 2 and 3.
 pub meant_within : (w : ℕ) → w < 65536 → (2 ≤ count_meant mode_2 w) × (count_meant mode_2 w ≤ 65536)
-meant_within w h =
-    ⊎_elim
-    (λ e. rw e (omega arith, omega arith))
-    (λ f. ⊎_elim (λ e. rw e (omega arith, omega arith)) (λ g. rw (ne_eqb w 0 f, ne_eqb w 1 g) (some f g, omega arith)) (cases_eq w 1))
-    (cases_eq w 0)
-  where
-    some : (w ≢ 0) → (w ≢ 1) → 2 ≤ w
-    some f g = omega arith
+meant_within w h = grind (arith, nat_tests)
 
 -- OUT is high with more than one tick to go.
 high : (r : ℕ) → 2 ≤ r → r ≤ 65536 → not (r % 65536 == 1) ≡ true
-high r few many = ap not (ne_eqb (r % 65536) 1 (λ e. omega arith))
+high r few many = grind (arith, nat_tests)
 
 counts_down : (n r : ℕ) → 2 ≤ r → r ≤ 65536 → tick_counter (mode_2_counter n (r % 65536)) ≡ mode_2_counter n ((r - 1) % 65536)
 counts_down n r few many =
@@ -44,10 +38,8 @@ rate_before (suc k) n r h many =
 pub rate_load : (n r : ℕ) → 1 ≤ r → r ≤ 65536 → 2 ≤ n → n ≤ 65536 → ticks counting r (mode_2_counter n (r % 65536)) ≡ mode_2_counter n (n % 65536)
 unfolding ticks
 rate_load n r some many few most =
-    let last : r ≡ r - 1 + 1 = omega arith in
     let one : (r - (r - 1)) % 65536 ≡ 1 = omega arith in
-    ap (λ k. ticks counting k (mode_2_counter n (r % 65536))) last
-    ∙ ticks_add counting (r - 1) 1 (mode_2_counter n (r % 65536))
+    in_parts counting r (r - 1) 1 (mode_2_counter n (r % 65536)) (omega arith)
     ∙ ap tick_counter (rate_before (r - 1) n r (omega arith) many ∙ ap (mode_2_counter n) one)
     ∙ loads n few most
 
@@ -60,9 +52,7 @@ rate_loaded k n few most =
 -- On the next load and after it.
 pub rate_after : (k n r : ℕ) → 1 ≤ r → r ≤ k → r ≤ 65536 → 2 ≤ n → n ≤ 65536 → ticks counting k (mode_2_counter n (r % 65536)) ≡ mode_2_counter n ((n - (k - r) % n) % 65536)
 rate_after k n r some h many few most =
-    let parts : k ≡ r + (k - r) = omega arith in
-    ap (λ j. ticks counting j (mode_2_counter n (r % 65536))) parts
-    ∙ ticks_add counting r (k - r) (mode_2_counter n (r % 65536))
+    in_parts counting k r (k - r) (mode_2_counter n (r % 65536)) (omega arith)
     ∙ ap (ticks counting (k - r)) (rate_load n r some many few most)
     ∙ rate_loaded (k - r) n few most
 

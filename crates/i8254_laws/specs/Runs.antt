@@ -5,7 +5,7 @@ use Rattle.std.proofs.Math.Path.{ap}
 use Rattle.std.proofs.Math.Nat.{zero-mul, suc-mul}
 use Rattle.std.proofs.lemmas.Bool.{false≢true}
 use Rattle.rules.specs.Device.{Meaning, ticks, level_after, Announces, horizon}
-use Rattle.rules.specs.TickLaws.{ticks_add, ticks_first}
+use Rattle.rules.specs.TickLaws.{ticks_add, ticks_first, ticks_still}
 use Rattle.rules.specs.I8254.{Timer, Channel, Counter, Mode, mode_0, mode_1, mode_2, mode_3, mode_4, mode_5, is_mode_0, timer, tick_counter, with_counter}
 use Rattle.i8254_laws.specs.Machines.{counting, channel}
 
@@ -20,14 +20,9 @@ module _ {S : Type 0} (m : Meaning S) (p : ℕ) (s : S) (back : ticks m p s ≡ 
   periodic n =
       ap (λ k. ticks m k s) (sym (div-add-mod' n p)) ∙ ticks_add m (n / p * p) (n % p) s ∙ ap (ticks m (n % p)) (whole_periods (n / p))
 
--- What a tick leaves alone stays.
-pub stands_still : {S : Type 0} (m : Meaning S) (s : S) → m.tick s ≡ s → (n : ℕ) → ticks m n s ≡ s
-unfolding ticks
-stands_still m s same zero = refl
-stands_still m s same (suc n) = ap (ticks m n) same ∙ stands_still m s same n
-
-pub still_announces : {S : Type 0} (m : Meaning S) (s : S) → m.tick s ≡ s → Announces m s None
-still_announces m s same j near = ap m.level (stands_still m s same j)
+-- A run by its two parts.
+pub in_parts : {S : Type 0} (m : Meaning S) (n first rest : ℕ) (s : S) → n ≡ first + rest → ticks m n s ≡ ticks m rest (ticks m first s)
+in_parts m n first rest s e = rw e (ticks_add m first rest s)
 
 -- One tick that keeps the level puts an announcement off by one.
 pub announces_later : {S : Type 0} (m : Meaning S) (s next : S) (k : ℕ) → m.tick s ≡ next → m.level next ≡ m.level s → k + 1 ≤ horizon → Announces m next (Some k) → Announces m s (Some (k + 1))
@@ -42,7 +37,7 @@ announces_later m s next k to same near a =
     before zero h = refl
     before (suc j) h = at j ∙ a.2 j (omega arith) ∙ same
 
--- The channels of a timer tick side by side.
+-- The channels of a timer tick side by side. By the ticks themselves, as three uses of `ticks_along` would be longer.
 pub ticks_timer : (n : ℕ) (t : Timer) → ticks timer n t ≡ record { channel_0 = ticks channel n t.channel_0; channel_1 = ticks channel n t.channel_1; channel_2 = ticks channel n t.channel_2 }
 unfolding ticks
 ticks_timer zero t = refl
@@ -72,33 +67,27 @@ keeps_mode c = go c.mode c.out c.value c.count c.loaded c.left
 abbrev pub held : Channel → Bool
 held ch = elim ch.low_byte [ Some low ↦ is_mode_0 ch.counter.mode | None ↦ false ]
 
-pub held_run : (n : ℕ) (ch : Channel) → held ch ≡ true → ticks channel n ch ≡ ch
-held_run n ch h = stands_still channel ch (go ch.low_byte h) n
-  where
-    at : Option ℕ → Channel
-    at low = record { access = ch.access; low_byte = low; high_next = ch.high_next; latch = ch.latch; counter = ch.counter }
+abbrev with_low_byte : Channel → Option ℕ → Channel
+with_low_byte ch low = record { access = ch.access; low_byte = low; high_next = ch.high_next; latch = ch.latch; counter = ch.counter }
 
-    go : (low : Option ℕ) → held (at low) ≡ true → channel.tick (at low) ≡ at low
+pub held_run : (n : ℕ) (ch : Channel) → held ch ≡ true → ticks channel n ch ≡ ch
+held_run n ch h = ticks_still channel n ch (go ch.low_byte h)
+  where
+    go : (low : Option ℕ) → held (with_low_byte ch low) ≡ true → channel.tick (with_low_byte ch low) ≡ with_low_byte ch low
     go (Some low) e = rw e
     go None e = absurd (false≢true e)
 
 free_tick : (ch : Channel) → held ch ≡ false → channel.tick ch ≡ with_counter ch (tick_counter ch.counter)
 free_tick ch h = go ch.low_byte h
   where
-    at : Option ℕ → Channel
-    at low = record { access = ch.access; low_byte = low; high_next = ch.high_next; latch = ch.latch; counter = ch.counter }
-
-    go : (low : Option ℕ) → held (at low) ≡ false → channel.tick (at low) ≡ with_counter (at low) (tick_counter ch.counter)
+    go : (low : Option ℕ) → held (with_low_byte ch low) ≡ false → channel.tick (with_low_byte ch low) ≡ with_counter (with_low_byte ch low) (tick_counter ch.counter)
     go (Some low) e = rw e
     go None e = refl
 
 still_free : (ch : Channel) → held ch ≡ false → held (with_counter ch (tick_counter ch.counter)) ≡ false
 still_free ch h = go ch.low_byte h
   where
-    at : Option ℕ → Counter → Channel
-    at low c = record { access = ch.access; low_byte = low; high_next = ch.high_next; latch = ch.latch; counter = c }
-
-    go : (low : Option ℕ) → held (at low ch.counter) ≡ false → held (at low (tick_counter ch.counter)) ≡ false
+    go : (low : Option ℕ) → held (with_low_byte ch low) ≡ false → held (with_counter (with_low_byte ch low) (tick_counter ch.counter)) ≡ false
     go (Some low) e = ap is_mode_0 (keeps_mode ch.counter) ∙ e
     go None e = refl
 
@@ -111,13 +100,15 @@ free_run (suc n) ch h = ap (ticks channel n) (free_tick ch h) ∙ free_run n (wi
 pub held_announces : (ch : Channel) → held ch ≡ true → Announces channel ch None
 held_announces ch h j near = ap channel.level (held_run j ch h)
 
+-- Two machines whose levels are the same after every number of ticks announce the same.
+announces_alike : {S R : Type 0} (m : Meaning S) (s : S) (r : Meaning R) (t : R) → ((j : ℕ) → level_after m j s ≡ level_after r j t) → (o : Option ℕ) → Announces r t o → Announces m s o
+unfolding ticks
+announces_alike m s r t alike (Some k) a = (a.0, a.1, (λ j before. alike j ∙ a.2 j before ∙ sym (alike 0)), λ e. a.3 (sym (alike k) ∙ e ∙ alike 0))
+announces_alike m s r t alike None a = λ j near. alike j ∙ a j near ∙ sym (alike 0)
+
 pub free_announces : (ch : Channel) (r : Option ℕ) → held ch ≡ false → Announces counting ch.counter r → Announces channel ch r
-free_announces ch (Some k) h a =
-    (a.0, a.1, (λ j before. ap channel.level (free_run j ch h) ∙ a.2 j before), λ e. a.3 (sym (ap channel.level (free_run k ch h)) ∙ e))
-free_announces ch None h a = λ j near. ap channel.level (free_run j ch h) ∙ a j near
+free_announces ch r h a = announces_alike channel ch counting ch.counter (λ j. ap channel.level (free_run j ch h)) r a
 
 -- The timer announces what its channel 0 does.
 pub timer_announces : (t : Timer) (r : Option ℕ) → Announces channel t.channel_0 r → Announces timer t r
-timer_announces t (Some k) a =
-    (a.0, a.1, (λ j before. ap timer.level (ticks_timer j t) ∙ a.2 j before), λ e. a.3 (sym (ap timer.level (ticks_timer k t)) ∙ e))
-timer_announces t None a = λ j near. ap timer.level (ticks_timer j t) ∙ a j near
+timer_announces t r a = announces_alike timer t channel t.channel_0 (λ j. ap timer.level (ticks_timer j t)) r a

@@ -7,6 +7,10 @@
 use anyhow::anyhow;
 use device::Device;
 use i8254::Timer;
+use std::error::Error;
+use std::fmt;
+use std::num::ParseIntError;
+use std::str::FromStr;
 
 const CONTROL_PORT: u16 = 3;
 
@@ -17,6 +21,22 @@ const LATCH_CHANNEL_0: u8 = 0;
 enum Bytes {
     One,
     Both,
+}
+
+// A byte in two hexadecimal digits.
+#[derive(Clone, Copy)]
+struct Hex(u8);
+
+// A line of the input.
+enum Command {
+    // A case begins, at power on.
+    Case,
+    Write { offset: u16, byte: Hex },
+    Read { offset: u16 },
+    Announce,
+    // OUT and the counter after each of n ticks.
+    Ticks { n: u64, bytes: Bytes },
+    Jumps { from: u64, to: u64 },
 }
 
 #[derive(Clone, Copy, PartialEq)]
@@ -30,27 +50,30 @@ struct Shown {
 fn look(timer: &Timer, bytes: Bytes) -> Shown {
     let mut copy = *timer;
     copy.write(CONTROL_PORT, LATCH_CHANNEL_0);
-    let first = u16::from(copy.read(0));
-    let second = match bytes {
+    let low = copy.read(0);
+    let high = match bytes {
         Bytes::One => 0,
-        Bytes::Both => u16::from(copy.read(0)),
+        Bytes::Both => copy.read(0),
     };
     Shown {
-        counter: first + 256 * second,
+        counter: u16::from_le_bytes([low, high]),
         out: timer.level(),
         announced: timer.announce(),
     }
 }
 
-fn level(out: bool) -> &'static str {
-    if out { "high" } else { "low" }
+impl fmt::Display for Shown {
+    fn fmt<W: fmt::Write>(&self, f: &mut fmt::Formatter<W>) -> fmt::Result {
+        let level = if self.out { "high" } else { "low" };
+        write!(f, "{} {level}", self.counter)
+    }
 }
 
 fn tick_by_tick(rt: &impl Print, timer: &mut Timer, bytes: Bytes, n: u64) -> anyhow::Result<()> {
     for _ in 0..n {
         timer.skip(1);
         let now = look(timer, bytes);
-        println!(rt; "{} {}", now.counter, level(now.out))?;
+        println!(rt; "{now}")?;
     }
     Ok(())
 }
@@ -76,54 +99,78 @@ fn jumps(rt: &impl Print, timer: &Timer, from: u64, to: u64) -> anyhow::Result<(
     let mut jumper = *timer;
     jumper.skip(to);
     let now = look(&jumper, Bytes::Both);
-    println!(rt; "after {to}: {} {}", now.counter, level(now.out))?;
+    println!(rt; "after {to}: {now}")?;
     Ok(())
 }
 
-fn decimal(word: Option<&str>) -> anyhow::Result<u64> {
+// The word of a command that `what` describes.
+fn parsed<T: FromStr>(word: Option<&str>, what: &str) -> anyhow::Result<T>
+where
+    T::Err: Error,
+{
     match word {
-        Some(word) => Ok(word.parse::<u64>()?),
-        None => Err(anyhow!("a number is missing")),
+        Some(word) => Ok(word.parse::<T>()?),
+        None => Err(anyhow!("{what} is missing")),
     }
 }
 
-fn offset(word: Option<&str>) -> anyhow::Result<u16> {
-    match word {
-        Some(word) => Ok(word.parse::<u16>()?),
-        None => Err(anyhow!("an offset is missing")),
+impl FromStr for Hex {
+    type Err = ParseIntError;
+
+    fn from_str(word: &str) -> Result<Hex, ParseIntError> {
+        Ok(Hex(u8::from_str_radix(word, 16)?))
     }
 }
 
-fn byte(word: Option<&str>) -> anyhow::Result<u8> {
-    match word {
-        Some(word) => Ok(u8::from_str_radix(word, 16)?),
-        None => Err(anyhow!("a byte is missing")),
+impl FromStr for Command {
+    type Err = anyhow::Error;
+
+    fn from_str(line: &str) -> anyhow::Result<Command> {
+        let mut words = line.split_whitespace();
+        Ok(match words.next() {
+            Some("#") => Command::Case,
+            Some("write") => Command::Write {
+                offset: parsed(words.next(), "an offset")?,
+                byte: parsed(words.next(), "a byte")?,
+            },
+            Some("read") => Command::Read {
+                offset: parsed(words.next(), "an offset")?,
+            },
+            Some("announce") => Command::Announce,
+            Some("ticks") => Command::Ticks {
+                n: parsed(words.next(), "a number")?,
+                bytes: Bytes::Both,
+            },
+            Some("byte-ticks") => Command::Ticks {
+                n: parsed(words.next(), "a number")?,
+                bytes: Bytes::One,
+            },
+            Some("jumps") => Command::Jumps {
+                from: parsed(words.next(), "a number")?,
+                to: parsed(words.next(), "a number")?,
+            },
+            _ => return Err(anyhow!("no such command")),
+        })
     }
 }
 
 fn run(rt: &impl Print, timer: &mut Timer, line: &str) -> anyhow::Result<()> {
-    let mut words = line.split_whitespace();
-    match words.next() {
-        Some("#") => {
+    match line.parse::<Command>()? {
+        Command::Case => {
             *timer = Timer::power_on();
             rt.println(line)?;
         }
-        Some("write") => {
-            let at = offset(words.next())?;
-            timer.write(at, byte(words.next())?);
-        }
-        Some("read") => {
-            let read = timer.read(offset(words.next())?);
+        Command::Write {
+            offset,
+            byte: Hex(byte),
+        } => timer.write(offset, byte),
+        Command::Read { offset } => {
+            let read = timer.read(offset);
             println!(rt; "read {read:02x}")?;
         }
-        Some("ticks") => tick_by_tick(rt, timer, Bytes::Both, decimal(words.next())?)?,
-        Some("byte-ticks") => tick_by_tick(rt, timer, Bytes::One, decimal(words.next())?)?,
-        Some("announce") => announce(rt, timer)?,
-        Some("jumps") => {
-            let from = decimal(words.next())?;
-            jumps(rt, timer, from, decimal(words.next())?)?;
-        }
-        _ => return Err(anyhow!("no such command")),
+        Command::Announce => announce(rt, timer)?,
+        Command::Ticks { n, bytes } => tick_by_tick(rt, timer, bytes, n)?,
+        Command::Jumps { from, to } => jumps(rt, timer, from, to)?,
     }
     Ok(())
 }

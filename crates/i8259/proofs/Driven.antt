@@ -1,9 +1,9 @@
 -- Driving the eight inputs one after the other is byte arithmetic: bit by bit, each step writes its own bit alone.
--- Assumes nothing.
-use Rattle.std.proofs.Common.{◌≡◌, ℕ, zero, suc, ◌-◌, ◌^◌, ◌<◌, ◌≤◌, Bool, true, false, cond, not, ◌&&◌, ◌||◌, eqb, ltb, sym, refl, ap, ◌∙◌, subst, ap₂, inl, inr, arith}
+use Rattle.std.proofs.Common.{◌≡◌, ℕ, zero, suc, ◌-◌, ◌^◌, ◌<◌, ◌≤◌, Bool, true, false, cond, eqb, ltb, sym, refl, ap, ◌∙◌, ap₂, arith}
 use lib.Bits.{bit_and, bit_or, and_le_l, or_lt}
 use Rattle.std.proofs.lemmas.Nat.{pow_below}
-use Rattle.std.proofs.lemmas.Bool.{cases_eq, eq-eqb, ne_eqb, cases_lt, lt-ltb, le-ltb}
+use Rattle.std.proofs.lemmas.Bool.Decides.{nat_tests}
+use Rattle.std.proofs.lemmas.Bool.{lt-ltb, le-ltb}
 use Rattle.rules.specs.I8259.{bit, with_bit, without_bit, Chip, Stage, drive, drive_below}
 use Rattle.i8259.proofs.Bytes.{complement_bit, and_bit, or_bit, with_bit_bit, without_bit_bit, same_byte}
 
@@ -32,37 +32,18 @@ driven i level was c =
 
 rest_step : (i : ℕ) (level was : Bool) (c : Chip) → rest (driven i level was c) ≡ rest c
 unfolding rest build driven
-rest_step i true true c = refl
-rest_step i true false c = refl
-rest_step i false true c = refl
-rest_step i false false c = refl
+rest_step i level was c = grind arith
 
 -- A bit among those that one step writes or keeps.
 pub kept : (x i j : ℕ) (b : Bool) → bit x i ≡ b → bit x j ≡ cond (eqb i j) b (bit x j)
-kept x i j b e =
-    elim (cases_eq i j) [
-      | inl q ↦ rw (eq-eqb i j q) (subst (λ n. bit x n ≡ b) q e)
-      | inr d ↦ rw (ne_eqb i j d)
-    ]
-
-or_cond : (a b : Bool) → (a || b) ≡ cond b true a
-or_cond true true = refl
-or_cond true false = refl
-or_cond false true = refl
-or_cond false false = refl
-
-and_not_cond : (a b : Bool) → (a && not b) ≡ cond b false a
-and_not_cond true true = refl
-and_not_cond true false = refl
-and_not_cond false true = refl
-and_not_cond false false = refl
+kept x i j b e = grind (arith, nat_tests)
 
 module _ (i j : ℕ) (hi : i < 8) (hj : j < 8) where
   pub put_one : (x : ℕ) → bit (with_bit x i) j ≡ cond (eqb i j) true (bit x j)
-  put_one x = with_bit_bit x i j hi hj ∙ or_cond (bit x j) (eqb i j)
+  put_one x = grind (arith, with_bit_bit x i j hi hj)
 
   pub put_zero : (x : ℕ) → bit (without_bit x i) j ≡ cond (eqb i j) false (bit x j)
-  put_zero x = without_bit_bit x i j hi hj ∙ and_not_cond (bit x j) (eqb i j)
+  put_zero x = grind (arith, without_bit_bit x i j hi hj)
 
   input_step : (level was : Bool) (c : Chip) → bit c.inputs i ≡ was → bit (driven i level was c).inputs j ≡ cond (eqb i j) level (bit c.inputs j)
   unfolding rest build driven
@@ -78,7 +59,7 @@ module _ (i j : ℕ) (hi : i < 8) (hj : j < 8) where
   request_step false true c = put_zero c.irr
   request_step false false c = kept c.irr i j (bit c.irr i) refl
 
-with_small : (x i : ℕ) → i < 8 → x < 256 → with_bit x i < 256
+pub with_small : (x i : ℕ) → i < 8 → x < 256 → with_bit x i < 256
 with_small x i hi h = or_lt 8 x (2 ^ i) h (pow_below i 8 hi)
 
 without_small : (x i : ℕ) → x < 256 → without_bit x i < 256
@@ -96,14 +77,7 @@ small_step i false false c hi s = s
 
 -- What holds of the inputs below n, and of input n, holds below n + 1.
 pub merge : (f : ℕ → Bool) (b : Bool) (n j : ℕ) → cond (eqb n j) (f n) (cond (ltb j n) (f j) b) ≡ cond (ltb j (suc n)) (f j) b
-merge f b n j =
-    elim (cases_eq n j) [
-      | inl q ↦ rw (eq-eqb n j q, lt-ltb j (suc n) (omega arith)) (ap f q)
-      | inr d ↦ rw (ne_eqb n j d) (elim (cases_lt j n) [
-        | inl l ↦ rw (lt-ltb j n l, lt-ltb j (suc n) (omega arith))
-        | inr g ↦ rw (le-ltb j n g, le-ltb j (suc n) (omega arith))
-      ])
-    ]
+merge f b n j = grind (arith, nat_tests)
 
 module _ (level : ℕ → Bool) (c : Chip) where
   after : ℕ → Chip
@@ -145,28 +119,28 @@ module _ (level : ℕ → Bool) (c : Chip) where
   request_all : (j : ℕ) → j < 8 → bit (after 8).irr j ≡ now_requested j
   request_all j h = request_after 8 j (omega arith) h ∙ ap (λ t. cond t (now_requested j) (bit c.irr j)) (lt-ltb j 8 h)
 
+-- Once all inputs are given their levels, each stands at its own.
+pub inputs_driven : (level : ℕ → Bool) (c : Chip) (j : ℕ) → j < 8 → bit (drive_below 8 level c).inputs j ≡ level j
+unfolding after
+inputs_driven level c = input_all level c
+
 -- The request bits after all inputs are given their levels: rises set theirs, falls clear theirs.
 abbrev pub requests_after : ℕ → ℕ → ℕ → ℕ
 requests_after levels inputs irr = bit_and (bit_or irr (bit_and levels (255 - inputs))) (255 - bit_and inputs (255 - levels))
 
-requested_bits : (level was r : Bool) → requested level was r ≡ ((r || (level && not was)) && not (was && not level))
-requested_bits true true true = refl
-requested_bits true true false = refl
-requested_bits true false true = refl
-requested_bits true false false = refl
-requested_bits false true true = refl
-requested_bits false true false = refl
-requested_bits false false true = refl
-requested_bits false false false = refl
-
 requests_bit : (levels inputs irr j : ℕ) → levels < 256 → inputs < 256 → j < 8 → bit (requests_after levels inputs irr) j ≡ requested (bit levels j) (bit inputs j) (bit irr j)
 requests_bit levels inputs irr j hl hi hj =
-    and_bit (bit_or irr (bit_and levels (255 - inputs))) (255 - bit_and inputs (255 - levels)) j
-    ∙ (ap₂ ◌&&◌
-    (or_bit irr (bit_and levels (255 - inputs)) j ∙ ap (λ b. bit irr j || b) (and_bit levels (255 - inputs) j ∙ ap (λ b. bit levels j && b) (complement_bit inputs j hi hj)))
-    (complement_bit (bit_and inputs (255 - levels)) j (omega (arith, and_le_l inputs (255 - levels))) hj
-    ∙ ap not (and_bit inputs (255 - levels) j ∙ ap (λ b. bit inputs j && b) (complement_bit levels j hl hj)))
-    ∙ sym (requested_bits (bit levels j) (bit inputs j) (bit irr j)))
+    grind (
+      arith,
+      and_le_l inputs (255 - levels),
+      and_bit (bit_or irr (bit_and levels (255 - inputs))) (255 - bit_and inputs (255 - levels)) j,
+      or_bit irr (bit_and levels (255 - inputs)) j,
+      and_bit levels (255 - inputs) j,
+      and_bit inputs (255 - levels) j,
+      complement_bit inputs j hi hj,
+      complement_bit levels j hl hj,
+      complement_bit (bit_and inputs (255 - levels)) j (omega (arith, and_le_l inputs (255 - levels))) hj,
+    )
 
 requests_small : (levels inputs irr : ℕ) → levels < 256 → irr < 256 → requests_after levels inputs irr < 256
 requests_small levels inputs irr hl hr =

@@ -1,8 +1,8 @@
 -- The sixteen lines as one number: its two bytes are the levels of the two chips' inputs.
--- Assumes nothing.
-use Rattle.std.proofs.Common.{◌≡◌, ℕ, ◌+◌, ◌-◌, ◌/◌, ◌%◌, ◌^◌, ◌<◌, Bool, true, false, cond, eqb, sym, ap, ◌∙◌, subst, inl, inr, arith}
-use Rattle.std.proofs.lemmas.Nat.{shr-shr, field_of, mod-pow-add}
-use Rattle.std.proofs.lemmas.Bool.{cases_eq, eq-eqb, ne_eqb}
+use Rattle.std.proofs.Common.{◌≡◌, ℕ, ◌+◌, ◌*◌, ◌/◌, ◌%◌, ◌^◌, ◌<◌, Bool, true, false, cond, eqb, sym, ap, ◌∙◌, arith}
+use Rattle.std.proofs.lemmas.Nat.{shr-shr}
+use Rattle.std.proofs.lemmas.Bool.Decides.{nat_tests}
+use Rattle.std.proofs.lemmas.Nat.Bits.{bit_at_cat_low}
 use Rattle.rules.specs.I8259.{bit, Chip, Pair, requests, drive_below, drive_lines, cascade_input}
 use Rattle.i8259.specs.Views.{master_levels, slave_levels}
 use Rattle.i8259.proofs.Driven.{put_one, put_zero, same_levels}
@@ -10,19 +10,13 @@ use Rattle.i8259.proofs.Driven.{put_one, put_zero, same_levels}
 pub slave_bit : (lines j : ℕ) → bit (slave_levels lines) j ≡ bit lines (8 + j)
 slave_bit lines j = ap (λ n. eqb (n % 2) 1) (shr-shr lines 8 j)
 
-low_digit : (n k : ℕ) → n % 2 ^ (k + 1) % 2 ≡ n % 2
-low_digit n k = omega (arith, mod-pow-add n k 1)
-
 low_bit : (n j : ℕ) → j < 8 → bit (n % 256) j ≡ bit n j
 low_bit n j h =
-    let e : 8 - j + j ≡ 8 = omega arith in
-    let f : 7 - j + 1 ≡ 8 - j = omega arith in
-    ap (λ m. eqb (m % 2) 1)
-    (subst (λ m. n % 2 ^ m / 2 ^ j ≡ n / 2 ^ j % 2 ^ (8 - j)) e (field_of n (8 - j) j))
-    ∙ ap (λ m. eqb m 1) (subst (λ m. n / 2 ^ j % 2 ^ m % 2 ≡ n / 2 ^ j % 2) f (low_digit (n / 2 ^ j) (7 - j)))
+    let parts : n / 256 * 2 ^ 8 + n % 256 ≡ n = omega arith in
+    ap (λ m. eqb m 1) (sym (bit_at_cat_low (n / 256) 8 (n % 256) j h)) ∙ ap (λ m. bit m j) parts
 
 eqb_comm : (i j : ℕ) → eqb i j ≡ eqb j i
-eqb_comm i j = elim (cases_eq i j) [ inl e ↦ eq-eqb i j e ∙ sym (eq-eqb j i (sym e)) | inr d ↦ ne_eqb i j d ∙ sym (ne_eqb j i (λ e. d (sym e))) ]
+eqb_comm i j = grind (arith, nat_tests)
 
 pub master_bit : (lines j : ℕ) (slave_requests : Bool) → j < 8 → bit (master_levels lines slave_requests) j ≡ cond (eqb j cascade_input) slave_requests (bit lines j)
 master_bit lines j true h =

@@ -1,12 +1,10 @@
--- The rules' request is the request in terms of bits and ranks.
--- Assumes nothing.
+-- The rules' request is the request in terms of bits and ranks, by what its two searches find.
 use Rattle.std.proofs.Common.{◌≡◌, ℕ, ◌-◌, ◌<◌, Bool, true, false, cond, not, ◌&&◌, ltb, Some, None, Option, sym, refl, ap, ◌∙◌, subst, arith}
 use lib.Bits.{bit_and}
 use Rattle.std.proofs.lemmas.Bool.{and_parts, and_from, not-true, both_ways, ltb-true, ltb-false}
 use Rattle.rules.specs.I8259.{bit, rank, first, Chip, initialised, request}
 use Rattle.i8259.specs.Priority.{ComesFirst, Asks, Requesting}
 use Rattle.i8259.proofs.Bytes.{and_bit, complement_bit}
-use Rattle.i8259.proofs.Searched.{finds_first}
 
 module _ (c : Chip) (masks : c.imr < 256) where
   asking_bit : (i : ℕ) → i < 8 → bit (bit_and c.irr (255 - c.imr)) i ≡ (bit c.irr i && not (bit c.imr i))
@@ -20,7 +18,9 @@ module _ (c : Chip) (masks : c.imr < 256) where
   asked : (i : ℕ) → Asks c i → bit (bit_and c.irr (255 - c.imr)) i ≡ true
   asked i a = asking_bit i a.input ∙ and_from (bit c.irr i) (not (bit c.imr i)) a.requested (ap not a.unmasked)
 
-  -- The rules' request, by what its two searches find.
+  pub none_asks : ComesFirst c.lowest (bit_and c.irr (255 - c.imr)) None → Requesting c None
+  none_asks a = λ _ j p. absurd (both_ways (bit (bit_and c.irr (255 - c.imr)) j) (a j p.input) (asked j p))
+
   chosen : Bool → Option ℕ → Option ℕ → Option ℕ
   chosen ready asking serving =
       cond ready (elim asking [ Some i ↦ elim serving [ Some j ↦ cond (ltb (rank c.lowest i) (rank c.lowest j)) (Some i) None | None ↦ Some i ] | None ↦ None ]) None
@@ -42,16 +42,17 @@ module _ (c : Chip) (masks : c.imr < 256) where
       → Requesting c (chosen ready asking serving)
   unfolding chosen
   by_search false asking serving e a s = λ r. absurd (both_ways (initialised c.stage) e r)
-  by_search true None serving e a s = λ _ j p. absurd (both_ways (bit (bit_and c.irr (255 - c.imr)) j) (a j p.input) (asked j p))
+  by_search true None serving e a s = none_asks a
   by_search true (Some i) None e a s =
       (e, asks i a.0 a.1, λ k p. a.2 k p.input (asked k p), λ k h set. absurd (both_ways (bit c.isr k) (s k h) set))
   by_search true (Some i) (Some j) e a s = before_served i j (ltb (rank c.lowest i) (rank c.lowest j)) refl e a s
 
-pub request_law : (c : Chip) → c.lowest < 8 → c.imr < 256 → Requesting c (request c)
-unfolding chosen
-request_law c h masks =
-    by_search c masks (initialised c.stage) (first c.lowest (bit_and c.irr (255 - c.imr))) (first c.lowest c.isr) refl
-    (finds_first c.lowest (bit_and c.irr (255 - c.imr)) h) (finds_first c.lowest c.isr h)
-
-pub answers_request : (c : Chip) (r : Option ℕ) → c.lowest < 8 → c.imr < 256 → r ≡ request c → Requesting c r
-answers_request c r h masks e = subst (Requesting c) (sym e) (request_law c h masks)
+  pub answers_request : (asking serving r : Option ℕ)
+      → asking ≡ first c.lowest (bit_and c.irr (255 - c.imr)) → ComesFirst c.lowest (bit_and c.irr (255 - c.imr)) asking
+      → serving ≡ first c.lowest c.isr → ComesFirst c.lowest c.isr serving
+      → r ≡ request c → Requesting c r
+  unfolding chosen
+  answers_request asking serving r e a f s q =
+      subst (Requesting c) (sym q)
+      (by_search (initialised c.stage) (first c.lowest (bit_and c.irr (255 - c.imr))) (first c.lowest c.isr) refl
+      (subst (ComesFirst c.lowest (bit_and c.irr (255 - c.imr))) e a) (subst (ComesFirst c.lowest c.isr) f s))

@@ -1,19 +1,16 @@
 -- The inputs that stand at their levels, set one after the other, are the byte of the levels.
--- Assumes nothing.
 use Rattle.std.proofs.Common.{◌≡◌, ℕ, zero, suc, ◌+◌, ◌-◌, ◌%◌, ◌^◌, ◌<◌, ◌≤◌, Bool, true, false, cond, eqb, ltb, sym, ap, ◌∙◌, arith}
-use lib.Bits.{and_le_l, or_lt}
-use Rattle.std.proofs.lemmas.Nat.{pow_below}
+use lib.Bits.{and_le_l}
 use Rattle.std.proofs.lemmas.Bool.{ne_eqb, lt-ltb, le-ltb}
 use Rattle.rules.specs.I8259.{bit, with_bit, Chip, inputs_below, standing_pair, cascade_input}
 use Rattle.i8259.specs.Views.{standing, master_levels, slave_levels}
-use Rattle.i8259.proofs.Bytes.{same_byte}
-use Rattle.i8259.proofs.Driven.{put_one, kept, merge}
+use Rattle.i8259.proofs.Bytes.{zero_bit, same_byte}
+use Rattle.i8259.proofs.Driven.{put_one, kept, with_small, merge}
 use Rattle.i8259.proofs.Lines.{master_bit, slave_bit}
-use Rattle.i8259.proofs.Searched.{zero_bit}
 
 module _ (level : ℕ → Bool) where
   small_step : (b : Bool) (x i : ℕ) → i < 8 → x < 256 → cond b (with_bit x i) x < 256
-  small_step true x i hi h = or_lt 8 x (2 ^ i) h (pow_below i 8 hi)
+  small_step true x i hi h = with_small x i hi h
   small_step false x i hi h = h
 
   standing_small : (n : ℕ) → n ≤ 8 → inputs_below n level < 256

@@ -1,2 +1,3 @@
+pub mod ChipView
 pub mod Priority
 pub mod Views

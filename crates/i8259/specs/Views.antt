@@ -1,26 +1,14 @@
 -- What the code's values stand for among the rules' definitions.
-use Rattle.std.specs.Prelude.{ℕ, ◌/◌, ◌%◌, Bool, false, cond}
-use Rattle.i8259.specs.declared.chip.Chip.{Chip}
-use Rattle.i8259.specs.declared.chip.Stage.{Stage}
-use Rattle.i8259.specs.declared.chip.Stage.TheVariants.{Idle, WaitIcw2, WaitIcw3, WaitIcw4, Ready}
+use Rattle.std.specs.Prelude.{ℕ, ◌/◌, ◌%◌, Bool, false, cond, ◌==◌}
 use Rattle.i8259.specs.declared.chip.Offset.{Offset}
 use Rattle.i8259.specs.declared.chip.Offset.TheVariants.{Zero, One}
 use Rattle.i8259.specs.declared.chip.Access.{Access}
 use Rattle.i8259.specs.declared.chip.Access.TheVariants.{Icw1, Ocw2, Ocw3, OffsetOne}
-use Rattle.i8259.specs.declared.pair.Pair.{Pair}
+use Rattle.i8259.specs.declared.chip.words.Command.{Command}
+use Rattle.i8259.specs.declared.chip.words.Command.TheVariants.{NoOperation, NonSpecificEnd, SpecificEnd, RotateOnNonSpecificEnd, SetPriority, RotateOnSpecificEnd}
 use Rattle.i8259.specs.declared.pair.Which.{Which}
 use Rattle.i8259.specs.declared.pair.Which.TheVariants.{Master, Slave}
 use Rattle.rules.specs.I8259 as rules
-
-abbrev pub stage_of : Stage → rules.Stage
-stage_of Idle = rules.Stage.idle
-stage_of (WaitIcw2 single needs_icw4) = rules.Stage.wait_icw2 single needs_icw4
-stage_of (WaitIcw3 needs_icw4) = rules.Stage.wait_icw3 needs_icw4
-stage_of WaitIcw4 = rules.Stage.wait_icw4
-stage_of Ready = rules.Stage.ready
-
-abbrev pub view : Chip → rules.Chip
-view c = record { inputs = c.inputs; irr = c.irr; isr = c.isr; imr = c.imr; base = c.base; lowest = c.lowest; read_isr = c.read_isr; stage = stage_of c.stage }
 
 abbrev pub offset : Offset → ℕ
 offset Zero = 0
@@ -31,8 +19,16 @@ abbrev pub access_of : Offset → ℕ → Access
 access_of Zero byte = cond (rules.bit byte 4) Icw1 (cond (rules.bit byte 3) Ocw3 Ocw2)
 access_of One byte = OffsetOne
 
-abbrev pub pair_view : Pair → rules.Pair
-pair_view p = record { master = view p.master; slave = view p.slave }
+-- What OCW2 commands, by its code in bits 7 to 5, with the level in bits 2 to 0.
+abbrev pub command_of : ℕ → Command
+command_of word =
+    let code = word / 32 in
+    let level = word % 8 in
+    cond (code == 1) NonSpecificEnd
+    (cond (code == 3) (SpecificEnd level)
+    (cond (code == 5) RotateOnNonSpecificEnd
+    (cond (code == 6) (SetPriority level)
+    (cond (code == 7) (RotateOnSpecificEnd level) NoOperation))))
 
 abbrev pub chip_of : Which → rules.Pair → rules.Chip
 chip_of Master p = p.master

@@ -1,6 +1,5 @@
 // A pair and a chip under test, and what a word of a script shows of them.
 ghost use Rattle.std.specs.Prelude.{◌≡◌};
-ghost use Rattle.i8259.specs.Views.{view};
 
 use crate::script::{ChipWord, PairWord, Word};
 use i8259::{Chip, Pair, Which, first};
@@ -8,7 +7,6 @@ use std::fmt;
 
 #[derive(Clone, Copy)]
 pub enum Shown {
-    Nothing,
     Byte(u8),
     Flag(bool),
     Input(Option<u8>),
@@ -29,12 +27,10 @@ pub struct Bench {
     chip: Chip,
 }
 
-impl Registers {
-    fn of(chip: &Chip) -> Registers
-        ensures irr { result.irr ≡ (view chip.now).irr }
-        ensures isr { result.isr ≡ (view chip.now).isr }
-        ensures imr { result.imr ≡ (view chip.now).imr }
-    {
+impl From<&Chip> for Registers {
+    ghost from_gives = { λ chip shown. (shown.irr ≡ chip.now.irr) × (shown.isr ≡ chip.now.isr) × (shown.imr ≡ chip.now.imr) };
+
+    fn from(chip: &Chip) -> Registers {
         Registers {
             irr: chip.irr(),
             isr: chip.isr(),
@@ -51,50 +47,51 @@ impl Bench {
         }
     }
 
-    pub fn play(&mut self, word: Word) -> Shown {
+    // What the word shows, if it shows something.
+    pub fn play(&mut self, word: Word) -> Option<Shown> {
         match word {
             Word::OnPair(word) => play_pair(&mut self.pair, word),
             Word::OnChip(word) => play_chip(&mut self.chip, word),
-            Word::First(lowest, register) => Shown::Input(first(lowest, register)),
+            Word::First(lowest, register) => Some(Shown::Input(first(lowest, register))),
         }
     }
 }
 
-fn play_pair(pair: &mut Pair, word: PairWord) -> Shown {
+// A pair and a chip take other ports and levels, and a trait over both would say each of their methods once more.
+fn play_pair(pair: &mut Pair, word: PairWord) -> Option<Shown> {
     match word {
         PairWord::PowerOn => *pair = Pair::power_on(),
         PairWord::WithInputs(lines) => *pair = Pair::with_inputs(lines),
         PairWord::Lines(lines) => pair.drive(lines),
         PairWord::Write(which, at, byte) => pair.write(which, at, byte),
-        PairWord::Read(which, at) => return Shown::Byte(pair.read(which, at)),
-        PairWord::Acknowledge => return Shown::Byte(pair.acknowledge()),
-        PairWord::Requests => return Shown::Flag(pair.requests()),
+        PairWord::Read(which, at) => return Some(Shown::Byte(pair.read(which, at))),
+        PairWord::Acknowledge => return Some(Shown::Byte(pair.acknowledge())),
+        PairWord::Requests => return Some(Shown::Flag(pair.requests())),
         PairWord::Show => {
-            let master = Registers::of(&pair.chip(Which::Master));
-            return Shown::TwoChips(master, Registers::of(&pair.chip(Which::Slave)));
+            let master = Registers::from(&pair.chip(Which::Master));
+            let slave = Registers::from(&pair.chip(Which::Slave));
+            return Some(Shown::TwoChips(master, slave));
         }
     }
-    Shown::Nothing
+    None
 }
 
-fn play_chip(chip: &mut Chip, word: ChipWord) -> Shown {
+fn play_chip(chip: &mut Chip, word: ChipWord) -> Option<Shown> {
     match word {
         ChipWord::PowerOn => *chip = Chip::power_on(),
         ChipWord::Inputs(levels) => chip.drive_all(levels),
         ChipWord::Write(at, byte) => chip.write(at, byte),
-        ChipWord::Read(at) => return Shown::Byte(chip.read(at)),
-        ChipWord::Acknowledge => return Shown::Byte(chip.acknowledge()),
-        ChipWord::Requests => return Shown::Flag(chip.requests()),
-        ChipWord::Show => return Shown::OneChip(Registers::of(chip)),
+        ChipWord::Read(at) => return Some(Shown::Byte(chip.read(at))),
+        ChipWord::Acknowledge => return Some(Shown::Byte(chip.acknowledge())),
+        ChipWord::Requests => return Some(Shown::Flag(chip.requests())),
+        ChipWord::Show => return Some(Shown::OneChip(Registers::from(&*chip))),
     }
-    Shown::Nothing
+    None
 }
 
 impl fmt::Display for Registers {
     fn fmt<W: fmt::Write>(&self, f: &mut fmt::Formatter<W>) -> fmt::Result {
-        let irr = self.irr;
-        let isr = self.isr;
-        let imr = self.imr;
+        let Registers { irr, isr, imr } = *self;
         write!(f, "irr {irr:02x} isr {isr:02x} imr {imr:02x}")
     }
 }
@@ -102,7 +99,6 @@ impl fmt::Display for Registers {
 impl fmt::Display for Shown {
     fn fmt<W: fmt::Write>(&self, f: &mut fmt::Formatter<W>) -> fmt::Result {
         match self {
-            Shown::Nothing => Ok(()),
             Shown::Byte(byte) => write!(f, "{byte:02x}"),
             Shown::Flag(true) => write!(f, "yes"),
             Shown::Flag(false) => write!(f, "no"),

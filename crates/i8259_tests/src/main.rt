@@ -7,24 +7,25 @@
 mod bench;
 mod script;
 
-use bench::{Bench, Shown};
+use bench::Bench;
 use script::Word;
 
 // Each word that shows something prints a line.
-fn play_line(rt: &HostRuntime, bench: &mut Bench, line: &str) -> anyhow::Result<()> {
+fn play_line(rt: &impl Print, bench: &mut Bench, line: &str) -> anyhow::Result<()> {
     for text in line.split_whitespace() {
-        match Word::parse(text) {
-            Some(word) => match bench.play(word) {
-                Shown::Nothing => {}
-                shown => println!(rt; "{text} {shown}")?,
-            },
-            None => println!(rt; "{text} is no word")?,
+        match text.parse::<Word>() {
+            Ok(word) => {
+                if let Some(shown) = bench.play(word) {
+                    println!(rt; "{text} {shown}")?;
+                }
+            }
+            Err(no_word) => println!(rt; "{text} {no_word}")?,
         }
     }
     Ok(())
 }
 
-fn run(rt: &HostRuntime) -> anyhow::Result<()> {
+fn run(rt: &(impl Print + Input + Alloc)) -> anyhow::Result<()> {
     let mut bench = Bench::new();
     for line in rt.lines(rt.alloc()) {
         let line = line?;

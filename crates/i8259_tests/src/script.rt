@@ -1,7 +1,12 @@
 // The words of a script. A number follows a word after `=`, in hexadecimal.
-ghost use Rattle.std.specs.Prelude.{◌≡◌, ◌/◌, ◌%◌};
-
 use i8259::{Offset, Which};
+use std::fmt;
+use std::num::ParseIntError;
+use std::str::FromStr;
+
+// The error of a text that is no word.
+#[derive(Clone, Copy, Debug, PartialEq, Eq)]
+pub struct NoWord;
 
 #[derive(Clone, Copy)]
 pub enum Word {
@@ -34,43 +39,34 @@ pub enum ChipWord {
     Show,
 }
 
-fn low_byte(number: u16) -> u8
-    ensures { result ≡ number % 256 }
-{
-    (number % 256) as u8
-}
+impl FromStr for Word {
+    type Err = NoWord;
 
-fn high_byte(number: u16) -> u8
-    ensures { result ≡ number / 256 }
-{
-    (number / 256) as u8
-}
-
-impl Word {
-    pub fn parse(text: &str) -> Option<Word> {
+    fn from_str(text: &str) -> Result<Word, NoWord> {
         let (name, digits) = text.split_once('=').unwrap_or((text, "0"));
-        let number = u16::from_str_radix(digits, 16).ok()?;
+        let number = u16::from_str_radix(digits, 16)?;
         if name == "first" {
-            return Some(Word::First(high_byte(number), low_byte(number)));
+            let [lowest, register] = number.to_be_bytes();
+            return Ok(Word::First(lowest, register));
         }
-        if let Some(word) = PairWord::parse(name, number) {
-            return Some(Word::OnPair(word));
-        }
-        let word = ChipWord::parse(name, low_byte(number))?;
-        Some(Word::OnChip(word))
+        let on_pair = PairWord::try_from((name, number)).map(Word::OnPair);
+        on_pair.or_else(|_| ChipWord::try_from((name, number)).map(Word::OnChip))
     }
 }
 
-impl PairWord {
-    fn parse(name: &str, number: u16) -> Option<PairWord> {
+impl TryFrom<(&str, u16)> for PairWord {
+    type Error = NoWord;
+
+    fn try_from((name, number): (&str, u16)) -> Result<PairWord, NoWord> {
+        let [_, byte] = number.to_be_bytes();
         let word = match name {
             "power" => PairWord::PowerOn,
             "stand" => PairWord::WithInputs(number),
             "lines" => PairWord::Lines(number),
-            "w20" => PairWord::Write(Which::Master, Offset::Zero, low_byte(number)),
-            "w21" => PairWord::Write(Which::Master, Offset::One, low_byte(number)),
-            "wa0" => PairWord::Write(Which::Slave, Offset::Zero, low_byte(number)),
-            "wa1" => PairWord::Write(Which::Slave, Offset::One, low_byte(number)),
+            "w20" => PairWord::Write(Which::Master, Offset::Zero, byte),
+            "w21" => PairWord::Write(Which::Master, Offset::One, byte),
+            "wa0" => PairWord::Write(Which::Slave, Offset::Zero, byte),
+            "wa1" => PairWord::Write(Which::Slave, Offset::One, byte),
             "r20" => PairWord::Read(Which::Master, Offset::Zero),
             "r21" => PairWord::Read(Which::Master, Offset::One),
             "ra0" => PairWord::Read(Which::Slave, Offset::Zero),
@@ -78,14 +74,17 @@ impl PairWord {
             "ack" => PairWord::Acknowledge,
             "asks" => PairWord::Requests,
             "show" => PairWord::Show,
-            _ => return None,
+            _ => return Err(NoWord),
         };
-        Some(word)
+        Ok(word)
     }
 }
 
-impl ChipWord {
-    fn parse(name: &str, byte: u8) -> Option<ChipWord> {
+impl TryFrom<(&str, u16)> for ChipWord {
+    type Error = NoWord;
+
+    fn try_from((name, number): (&str, u16)) -> Result<ChipWord, NoWord> {
+        let [_, byte] = number.to_be_bytes();
         let word = match name {
             "chip" => ChipWord::PowerOn,
             "in" => ChipWord::Inputs(byte),
@@ -96,8 +95,20 @@ impl ChipWord {
             "chip-ack" => ChipWord::Acknowledge,
             "chip-asks" => ChipWord::Requests,
             "chip-show" => ChipWord::Show,
-            _ => return None,
+            _ => return Err(NoWord),
         };
-        Some(word)
+        Ok(word)
+    }
+}
+
+impl From<ParseIntError> for NoWord {
+    fn from(_: ParseIntError) -> NoWord {
+        NoWord
+    }
+}
+
+impl fmt::Display for NoWord {
+    fn fmt<W: fmt::Write>(&self, f: &mut fmt::Formatter<W>) -> fmt::Result {
+        write!(f, "is no word")
     }
 }

@@ -1,55 +1,20 @@
 -- The pulse generator in closed form, and when its level flips.
-use Rattle.std.proofs.Common.{◌≡◌, ℕ, zero, suc, ◌+◌, ◌-◌, ◌*◌, ◌/◌, ◌%◌, ◌<◌, ◌≤◌, Bool, true, false, cond, not, eqb, ◌≢◌, Some, sym, refl, ap, ◌∙◌, ⊎_elim, add-mul, add-one, arith}
-use mathlib.Core.Bool.{not-not}
+use Rattle.std.proofs.Common.{◌≡◌, ℕ, zero, suc, ◌+◌, ◌-◌, ◌*◌, ◌/◌, ◌%◌, ◌<◌, ◌≤◌, true, false, Some, sym, refl, ap, ◌∙◌, ⊎_elim, add-mul, arith}
 use native.Mathlib.Nat.{sub-zero, zero-mod, zero-div}
 use Rattle.std.proofs.lemmas.Nat.{div-add-mod', div-mul-add, mod-mul-add, mod_below}
-use Rattle.std.proofs.lemmas.Bool.{cases_lt, cases_eq, eq-eqb, ne_eqb, true≢false, false≢true}
+use Rattle.std.proofs.lemmas.Bool.{cases_lt}
+use Rattle.std.proofs.lemmas.Bool.Decides.{nat_tests}
 use Rattle.rules.specs.Device.{ticks, Announces}
 use Rattle.rules.specs.TickLaws.{ticks_add, ticks_last}
-use Rattle.pulse.specs.Pulse.{Counting, lowered, reloaded, tick_pulse, pulse_generator, flips, FlipsEveryReload, started}
-
--- An even number of flips does nothing, and an odd one is one flip.
-parity_even : (n : ℕ) (high : Bool) → n % 2 ≡ 0 → not (cond (eqb (n % 2) 0) high (not high)) ≡ cond (eqb (suc n % 2) 0) high (not high)
-parity_even n high even =
-    let odd : suc n % 2 ≡ 0 → ⊥ = λ e. omega arith in
-    rw (eq-eqb (n % 2) 0 even, ne_eqb (suc n % 2) 0 odd)
-
-parity_odd : (n : ℕ) (high : Bool) → (n % 2 ≡ 0 → ⊥) → not (cond (eqb (n % 2) 0) high (not high)) ≡ cond (eqb (suc n % 2) 0) high (not high)
-parity_odd n high odd =
-    let even : suc n % 2 ≡ 0 = omega arith in
-    rw (ne_eqb (n % 2) 0 odd, eq-eqb (suc n % 2) 0 even) (not-not high)
-
-flips_parity : (n : ℕ) (high : Bool) → flips n high ≡ cond (eqb (n % 2) 0) high (not high)
-unfolding flips
-flips_parity zero high = refl
-flips_parity (suc n) high = ap not (flips_parity n high) ∙ ⊎_elim (parity_even n high) (parity_odd n high) (cases_eq (n % 2) 0)
-
-pub flips_even : (n : ℕ) (high : Bool) → n % 2 ≡ 0 → flips n high ≡ high
-flips_even n high even = flips_parity n high ∙ rw (eq-eqb (n % 2) 0 even)
-
-pub flips_odd : (n : ℕ) (high : Bool) → (n % 2 ≡ 0 → ⊥) → flips n high ≡ not high
-flips_odd n high odd = flips_parity n high ∙ rw (ne_eqb (n % 2) 0 odd)
-
--- One flip more, at either end.
-flips_last : (n : ℕ) (high : Bool) → flips (n + 1) high ≡ not (flips n high)
-unfolding flips
-flips_last n high = rw add-one
-
-flips_first : (n : ℕ) (high : Bool) → flips (n + 1) high ≡ flips n (not high)
-unfolding flips
-flips_first zero high = refl
-flips_first (suc n) high = flips_last (suc n) high ∙ ap not (sym (flips_last n high) ∙ flips_first n high)
+use Rattle.rules.specs.Flips.{flips, flip_differs, flips_first, flips_last}
+use Rattle.pulse.specs.Pulse.{Counting, lowered, reloaded, tick_pulse, pulse_generator, FlipsEveryReload, started}
 
 -- One tick, within a count and at its end.
 lowers : (p : Counting) → p.running ≡ true → 1 < p.count → tick_pulse p ≡ lowered p
-lowers p on more =
-    let some : p.count - 1 ≡ 0 → ⊥ = λ e. omega arith in
-    rw (on, ne_eqb (p.count - 1) 0 some)
+lowers p on more = grind (arith, nat_tests)
 
 reloads : (p : Counting) → p.running ≡ true → p.count ≤ 1 → tick_pulse p ≡ reloaded p
-reloads p on last =
-    let none : p.count - 1 ≡ 0 = omega arith in
-    rw (on, eq-eqb (p.count - 1) 0 none)
+reloads p on last = grind (arith, nat_tests)
 
 -- Before the count runs out, it falls by one a tick.
 abbrev counted : ℕ → Counting → Counting
@@ -126,17 +91,13 @@ ticks_past n p on some first h =
 pub still : (p : Counting) → p.running ≡ false → tick_pulse p ≡ p
 still p off = rw off
 
-flipped : (b : Bool) → not b ≢ b
-flipped true = false≢true
-flipped false = true≢false
-
 -- The level stays until the count runs out, and flips there.
 pub pulse_announces : (p : Counting) → p.running ≡ true → 1 ≤ p.count → p.count ≤ 65536 → Announces pulse_generator p (Some p.count)
 pulse_announces p on some few = (
   some,
   omega arith,
   (λ j early. ap (λ q. q.high) (ticks_within j p on early)),
-  (λ same. flipped p.high (sym (ap (λ q. q.high) (ticks_out p on some)) ∙ same)),
+  (λ same. flip_differs p.high (sym (ap (λ q. q.high) (ticks_out p on some)) ∙ same)),
 )
 
 pub flips_each_reload : FlipsEveryReload

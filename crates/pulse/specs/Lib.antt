@@ -1,3 +1,2 @@
 pub mod Ports
 pub mod Pulse
-pub mod State

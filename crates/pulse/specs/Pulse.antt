@@ -1,6 +1,7 @@
 -- A pulse generator, one tick at a time.
-use Rattle.std.specs.Prelude.{◌≡◌, ℕ, zero, suc, ◌+◌, ◌-◌, ◌*◌, ◌/◌, ◌%◌, ◌≤◌, Bool, true, false, cond, not, ◌==◌}
+use Rattle.std.specs.Prelude.{◌≡◌, ℕ, ◌+◌, ◌-◌, ◌*◌, ◌/◌, ◌%◌, ◌≤◌, Bool, true, false, cond, not, ◌==◌}
 use Rattle.rules.specs.Device.{Meaning, level_after}
+use Rattle.rules.specs.Flips.{flips}
 
 -- The state: a reload value, a count, whether it runs, and the level.
 pub record Counting : Type 0 where
@@ -77,11 +78,6 @@ pulse_generator = record {
   after_read = after_read_pulse;
   after_write = write_pulse;
 }
-
--- A level that has flipped so many times.
-unfoldable pub flips : ℕ → Bool → Bool
-flips zero high = high
-flips (suc n) high = not (flips n high)
 
 -- Once a write of offset 2 has started it, the level after n ticks is the one written, flipped once for every whole `reload` ticks among the n.
 abbrev pub FlipsEveryReload : Type 0

@@ -1,4 +1,4 @@
-// What a pulse generator shows at its ports, by the rules alone.
+// What a pulse generator shows at its ports, by what specs/Pulse.antt says of it.
 use device::{Device, Divider};
 use pulse::Pulse;
 
@@ -23,7 +23,7 @@ fn power_on(rt: HostRuntime) {
     p.skip(1 << 32);
     assert_eq!(rt; seen(&mut p), (0, 0, 0, None));
     assert_eq!(rt; p.level(), false);
-    assert_eq!(rt; <Pulse as Device>::ports(), 4);
+    assert_eq!(rt; <Pulse as Device>::WIDTH, 4);
 }
 
 #[test]
@@ -99,4 +99,13 @@ fn behind_a_divider(rt: HostRuntime) {
     assert_eq!(rt; d.level(), false);
     d.skip(1);
     assert_eq!(rt; d.level(), true);
+}
+
+// Both are numbers from 1 to 65,536.
+#[test]
+fn counts(rt: HostRuntime) {
+    let mut p = running(2, 1);
+    p.skip(3);
+    assert_eq!(rt; p.counts(), (258, 255));
+    assert_eq!(rt; Pulse::new().counts(), (65_536, 65_536));
 }

@@ -1,6 +1,7 @@
 -- The worked examples hold. What has no variable is computed; the rest is an induction over ticks.
-use Rattle.std.proofs.Common.{◌≡◌, ℕ, zero, suc, ◌+◌, ◌<◌, ◌≤◌, true, false, cond, Some, None, sym, refl, ap, ◌∙◌, add-zero, arith, lt-ltb}
-use Rattle.rules.specs.Device.{Meaning, ticks, Announces, divided, divider_tick}
+use Rattle.std.proofs.Common.{◌≡◌, ℕ, zero, suc, ◌≤◌, true, false, Some, None, refl, arith}
+use Rattle.rules.specs.TickLaws.{announces_divided}
+use Rattle.rules.specs.Device.{Meaning, ticks, Announces, divided}
 use Rattle.rules.specs.I8254.{Timer, mode_0, low_then_high, power_on_channel, down}
 use Rattle.std.specs.Fmt.{digits}
 use Rattle.rules.specs.Ascending.{insert}
@@ -32,25 +33,11 @@ high_from_4 (suc (suc (suc zero))) h = absurd (omega arith)
 high_from_4 (suc (suc (suc (suc n)))) h = stays_high n 0
 
 module _ {S : Type 0} (m : Meaning S) (s : S) where
-  -- below the factor a tick only raises the phase
-  next_phase : (p : ℕ) → p + 1 < 12 → divider_tick m (by_twelve p s) ≡ by_twelve (p + 1) s
-  next_phase p h = ap (λ b. cond b (by_twelve (p + 1) s) (by_twelve 0 (m.tick s))) (lt-ltb (p + 1) 12 h)
-
-  phases : (n p : ℕ) → p + n < 12 → ticks (divided m) n (by_twelve p s) ≡ by_twelve (p + n) s
-  unfolding ticks
-  phases zero p h = ap (λ q. by_twelve q s) (sym (add-zero p))
-  phases (suc n) p h = ap (ticks (divided m) n) (next_phase p (omega arith)) ∙ phases n (p + 1) (omega arith) ∙ ap (λ q. by_twelve q s) (omega arith)
-
-  same_level : (n p : ℕ) → p + n < 12 → m.level (ticks (divided m) n (by_twelve p s)).inner ≡ m.level s
-  same_level n p h = ap (λ d. m.level d.inner) (phases n p h)
-
   from_0 : Announces m s (Some 1) → Announces (divided m) (by_twelve 0 s) (Some 12)
-  unfolding ticks
-  from_0 a = (omega arith, omega arith, λ j h. same_level j 0 (omega arith), a.3)
+  from_0 a = announces_divided m (by_twelve 0 s) (Some 1) (omega arith) a
 
   from_11 : Announces m s (Some 1) → Announces (divided m) (by_twelve 11 s) (Some 1)
-  unfolding ticks
-  from_11 a = (omega arith, omega arith, λ j h. same_level j 11 (omega arith), a.3)
+  from_11 a = announces_divided m (by_twelve 11 s) (Some 1) (omega arith) a
 
 pub worked_examples : (S : Type 0) → WorkedExamples S
 unfolding ticks insert first_from drive_below inputs_below high on_line edges_between carry_out tick tick_times digits big_endian_from all_printable decode next run_from run_lines on_board printed

@@ -7,3 +7,4 @@ pub mod Board
 pub mod Trace
 pub mod Examples
 pub mod TickLaws
+pub mod Flips

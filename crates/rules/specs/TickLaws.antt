@@ -2,7 +2,8 @@
 use Rattle.std.specs.Prelude.{◌≡◌, ℕ, zero, suc, ◌+◌, ◌-◌, ◌*◌, ◌/◌, ◌%◌, ◌<◌, ◌≤◌, cond, Some, None, Option, nat_le, refl}
 use Rattle.std.proofs.Common.{sym, ap, ◌∙◌, ⊎_elim, zero-add, add-zero, suc-add, mod-eq_of_lt, div-lt_iff_lt-mul, mul-div_cancel, add-mul, mul-le-mul_left, mul-le-mul_right, add-one, arith}
 use Rattle.std.proofs.Math.Nat.{add-mod_left, add-div_left, div-eq_of_lt}
-use Rattle.std.proofs.lemmas.Bool.{cases_lt, lt-ltb, le-ltb, leb-true, leb-false, cond_both}
+use Rattle.std.proofs.lemmas.Bool.Decides.{nat_tests}
+use Rattle.std.proofs.lemmas.Bool.{cases_lt, leb-true, leb-false, cond_both}
 use Rattle.rules.specs.Device.{Meaning, Lawful, ticks, level_after, Steady, horizon, Announces, empty_device, Divided, divider_tick, divided}
 
 -- No ticks, and one tick more at either end of a run.
@@ -54,13 +55,13 @@ divided_after m n s = record { factor = s.factor; phase = (s.phase + n) % s.fact
 
 -- One tick of a divider, within a period and at its end.
 tick_within : {S : Type 0} (m : Meaning S) (s : Divided S) → s.phase + 1 < s.factor → divider_tick m s ≡ record { factor = s.factor; phase = s.phase + 1; inner = s.inner }
-tick_within m s h = rw (lt-ltb (s.phase + 1) s.factor h)
+tick_within m s h = grind (arith, nat_tests)
 
 tick_over : {S : Type 0} (m : Meaning S) (s : Divided S) → s.factor ≤ s.phase + 1 → divider_tick m s ≡ record { factor = s.factor; phase = 0; inner = m.tick s.inner }
-tick_over m s h = rw (le-ltb (s.phase + 1) s.factor h)
+tick_over m s h = grind (arith, nat_tests)
 
 tick_keeps_phase : {S : Type 0} (m : Meaning S) (s : Divided S) → s.phase < s.factor → (divider_tick m s).phase < (divider_tick m s).factor
-tick_keeps_phase m s h = ⊎_elim (λ k. rw (tick_within m s k) k) (λ k. rw (tick_over m s k) (omega arith)) (cases_lt (s.phase + 1) s.factor)
+tick_keeps_phase m s h = grind (arith, nat_tests)
 
 after_within : {S : Type 0} (m : Meaning S) (n : ℕ) (s : Divided S) → s.phase + 1 < s.factor → divided_after m n (divider_tick m s) ≡ divided_after m (suc n) s
 after_within m n s k =

@@ -2,29 +2,30 @@
 ghost use Rattle.std.specs.Prelude.{◌≡◌};
 ghost use Rattle.rules.specs.Refusals.{told};
 
-// Why a trace or a call is refused. What each means stands in docs/RULES.md.
+// Why a trace or a call is refused, with the number that is printed. What each means stands in docs/RULES.md.
+// A refusal is shown by its number and layer alone, so it has no `Display`.
 #[derive(Clone, Copy, PartialEq, Eq, Debug)]
 pub enum Refusal {
     // The trace is empty, too long, or of another version.
-    NotATrace,
+    NotATrace = 1,
     // A record's length field or its counted bytes are cut off.
-    CutOff,
+    CutOff = 2,
     // The length is 0, or there is no such kind.
-    UnknownKind,
+    UnknownKind = 3,
     // The length is not the kind's.
-    WrongLength,
+    WrongLength = 4,
     // A note has a byte that is no printable ASCII.
-    NotPrintable,
+    NotPrintable = 5,
     // An advance is above 2^32.
-    LongAdvance,
+    LongAdvance = 6,
     // An advance would pass time 2^48.
-    PastEnd,
+    PastEnd = 7,
     // A queued tick is not after the present time, or is past 2^48.
-    BadTick,
+    BadTick = 8,
     // No node is free for a queued write.
-    QueueFull,
+    QueueFull = 9,
     // Fewer than 100 bytes of output remain before a record.
-    OutputFull,
+    OutputFull = 10,
 }
 
 // Where a refusal comes from.
@@ -36,22 +37,11 @@ pub enum Layer {
 }
 
 impl Refusal {
-    // The number that is printed, 1 to 10.
+    // The number that is printed.
     pub fn number(self) -> u8
         ensures { result ≡ (told self).number }
     {
-        match self {
-            Refusal::NotATrace => 1,
-            Refusal::CutOff => 2,
-            Refusal::UnknownKind => 3,
-            Refusal::WrongLength => 4,
-            Refusal::NotPrintable => 5,
-            Refusal::LongAdvance => 6,
-            Refusal::PastEnd => 7,
-            Refusal::BadTick => 8,
-            Refusal::QueueFull => 9,
-            Refusal::OutputFull => 10,
-        }
+        self as u8
     }
 
     pub fn layer(self) -> Layer
@@ -66,7 +56,7 @@ impl Refusal {
 }
 
 impl Layer {
-    // The letter that is printed.
+    // The letter that is printed. A match and no discriminants: a byte's letter reads plainer than a number cast to one.
     pub fn letter(self) -> u8
         ensures { result ≡ Rattle.rules.specs.Refusals.letter self }
     {

@@ -1,12 +1,12 @@
 // The four device slots, and what a port reaches.
-ghost use Rattle.std.specs.Prelude.{◌≡◌, ℕ, min, Option};
+ghost use Rattle.std.specs.Prelude.{◌≡◌, ℕ, min, None, Option, slice_index_or};
 ghost use Rattle.rules.specs.Device.{horizon};
 ghost use Rattle.rules.specs.Board as rules;
 ghost use Rattle.slots.specs.Slots.{States, target_of, levels_of, ticked, slot_byte, slots_after_read, slots_after_write, Foretold};
 ghost use Rattle.slots.specs.Offsets.{offset_from, chip_offset_from};
 
-use device::Device;
-use i8259::Offset;
+use device::{Device, NO_BYTE};
+use i8259::{Offset, Which};
 
 const MASTER_PORT: u16 = 0x20;
 
@@ -20,15 +20,20 @@ const FIRST_PORT_2: u16 = 0x3F8;
 
 const FIRST_PORT_3: u16 = 0x2F8;
 
+// One of the four slots.
+#[derive(Clone, Copy, Debug, PartialEq, Eq)]
+pub enum Slot {
+    Zero,
+    One,
+    Two,
+    Three,
+}
+
 // What a port belongs to, with the offset there.
-#[derive(Clone, Copy)]
+#[derive(Clone, Copy, Debug, PartialEq, Eq)]
 pub enum Target {
-    Master(Offset),
-    Slave(Offset),
-    Slot0(u16),
-    Slot1(u16),
-    Slot2(u16),
-    Slot3(u16),
+    Chip(Which, Offset),
+    Slot(Slot, u16),
     OpenBus,
 }
 
@@ -57,9 +62,9 @@ pub trait Slots {
     fn skip(&mut self, n: u64)
         ensures { states self.new ≡ ticked fitting (min n horizon) (states self.old) };
 
-    // How many ticks the slot's level stays for sure.
-    fn announce(&self, slot: u8) -> Option<u64>
-        ensures { Foretold fitting slot result (states self.now) };
+    // For how many ticks each slot's level stays for sure.
+    fn announcements(&self) -> [Option<u64>; 4]
+        ensures { (slot : ℕ) → Foretold fitting slot (slice_index_or result slot None) (states self.now) };
 
     // The byte that the target's slot gives; FFh where the target is no slot.
     fn read(&mut self, target: Target) -> u8
@@ -70,7 +75,8 @@ pub trait Slots {
         ensures { states self.new ≡ slots_after_write fitting target byte (states self.old) };
 }
 
-// Any four devices.
+// Any four devices. Each is of its own type, so they are no array.
+#[derive(Drop)]
 pub struct Fitted<D0, D1, D2, D3> {
     pub slot_0: D0,
     pub slot_1: D1,
@@ -82,50 +88,46 @@ pub struct Fitted<D0, D1, D2, D3> {
 fn offset_from(port: u16, first: u16, ports: u16) -> Option<u16>
     ensures { result ≡ offset_from port first ports }
 {
-    if first <= port && port - first < ports {
-        Some(port - first)
-    } else {
-        None
-    }
+    port.checked_sub(first).filter(|&offset| offset < ports)
 }
 
-// The same for the two ports of a controller.
+// The same for the two ports of a controller. The offset is one of two here, so a conversion that may fail would say less.
 fn chip_offset_from(port: u16, first: u16) -> Option<Offset>
     ensures { result ≡ chip_offset_from port first }
 {
-    match offset_from(port, first, 2) {
-        None => None,
-        Some(0) => Some(Offset::Zero),
-        Some(_) => Some(Offset::One),
-    }
+    offset_from(port, first, 2).map(|offset| match offset {
+        0 => Offset::Zero,
+        _ => Offset::One,
+    })
 }
 
 impl<D0: Device, D1: Device, D2: Device, D3: Device> Slots for Fitted<D0, D1, D2, D3> {
-    ghost S0 = { D0.Device.State };
+    ghost S0 = { D0.State };
 
-    ghost S1 = { D1.Device.State };
+    ghost S1 = { D1.State };
 
-    ghost S2 = { D2.Device.State };
+    ghost S2 = { D2.State };
 
-    ghost S3 = { D3.Device.State };
+    ghost S3 = { D3.State };
 
-    ghost fitting = { record { kind_0 = D0.Device.meaning; kind_1 = D1.Device.meaning; kind_2 = D2.Device.meaning; kind_3 = D3.Device.meaning } };
+    ghost fitting = { record { kind_0 = D0.meaning; kind_1 = D1.meaning; kind_2 = D2.meaning; kind_3 = D3.meaning } };
 
-    ghost states = { λ s. record { slot_0 = D0.Device.state s.slot_0; slot_1 = D1.Device.state s.slot_1; slot_2 = D2.Device.state s.slot_2; slot_3 = D3.Device.state s.slot_3 } };
+    ghost states = { λ s. record { slot_0 = D0.state s.slot_0; slot_1 = D1.state s.slot_1; slot_2 = D2.state s.slot_2; slot_3 = D3.state s.slot_3 } };
 
+    // A table would have a line for each of the six too, and a search over it.
     fn target(port: u16) -> Target {
         if let Some(at) = chip_offset_from(port, MASTER_PORT) {
-            Target::Master(at)
+            Target::Chip(Which::Master, at)
         } else if let Some(at) = chip_offset_from(port, SLAVE_PORT) {
-            Target::Slave(at)
-        } else if let Some(offset) = offset_from(port, FIRST_PORT_0, D0::ports()) {
-            Target::Slot0(offset)
-        } else if let Some(offset) = offset_from(port, FIRST_PORT_1, D1::ports()) {
-            Target::Slot1(offset)
-        } else if let Some(offset) = offset_from(port, FIRST_PORT_2, D2::ports()) {
-            Target::Slot2(offset)
-        } else if let Some(offset) = offset_from(port, FIRST_PORT_3, D3::ports()) {
-            Target::Slot3(offset)
+            Target::Chip(Which::Slave, at)
+        } else if let Some(offset) = offset_from(port, FIRST_PORT_0, D0::WIDTH) {
+            Target::Slot(Slot::Zero, offset)
+        } else if let Some(offset) = offset_from(port, FIRST_PORT_1, D1::WIDTH) {
+            Target::Slot(Slot::One, offset)
+        } else if let Some(offset) = offset_from(port, FIRST_PORT_2, D2::WIDTH) {
+            Target::Slot(Slot::Two, offset)
+        } else if let Some(offset) = offset_from(port, FIRST_PORT_3, D3::WIDTH) {
+            Target::Slot(Slot::Three, offset)
         } else {
             Target::OpenBus
         }
@@ -147,32 +149,31 @@ impl<D0: Device, D1: Device, D2: Device, D3: Device> Slots for Fitted<D0, D1, D2
         self.slot_3.skip(n);
     }
 
-    fn announce(&self, slot: u8) -> Option<u64> {
-        match slot {
-            0 => self.slot_0.announce(),
-            1 => self.slot_1.announce(),
-            2 => self.slot_2.announce(),
-            3 => self.slot_3.announce(),
-            _ => None,
-        }
+    fn announcements(&self) -> [Option<u64>; 4] {
+        [
+            self.slot_0.announce(),
+            self.slot_1.announce(),
+            self.slot_2.announce(),
+            self.slot_3.announce(),
+        ]
     }
 
     fn read(&mut self, target: Target) -> u8 {
         match target {
-            Target::Slot0(offset) => self.slot_0.read(offset),
-            Target::Slot1(offset) => self.slot_1.read(offset),
-            Target::Slot2(offset) => self.slot_2.read(offset),
-            Target::Slot3(offset) => self.slot_3.read(offset),
-            _ => 0xFF,
+            Target::Slot(Slot::Zero, offset) => self.slot_0.read(offset),
+            Target::Slot(Slot::One, offset) => self.slot_1.read(offset),
+            Target::Slot(Slot::Two, offset) => self.slot_2.read(offset),
+            Target::Slot(Slot::Three, offset) => self.slot_3.read(offset),
+            _ => NO_BYTE,
         }
     }
 
     fn write(&mut self, target: Target, byte: u8) {
         match target {
-            Target::Slot0(offset) => self.slot_0.write(offset, byte),
-            Target::Slot1(offset) => self.slot_1.write(offset, byte),
-            Target::Slot2(offset) => self.slot_2.write(offset, byte),
-            Target::Slot3(offset) => self.slot_3.write(offset, byte),
+            Target::Slot(Slot::Zero, offset) => self.slot_0.write(offset, byte),
+            Target::Slot(Slot::One, offset) => self.slot_1.write(offset, byte),
+            Target::Slot(Slot::Two, offset) => self.slot_2.write(offset, byte),
+            Target::Slot(Slot::Three, offset) => self.slot_3.write(offset, byte),
             _ => {}
         }
     }

@@ -3,4 +3,4 @@
 
 pub mod fitted;
 
-pub use fitted::{Fitted, Slots, Target};
+pub use fitted::{Fitted, Slot, Slots, Target};

@@ -1,12 +1,12 @@
 -- How the counted bytes of a record are taken apart.
-use Rattle.std.proofs.Common.{◌≡◌, ℕ, zero, suc, ◌+◌, ◌-◌, ◌*◌, ◌<◌, ◌≤◌, Bool, true, false, cond, eqb, List, [], ◌∷◌, length, get_or, take, drop, Ok, Err, Result, refl, ap, ◌∙◌, ap₂, arith, ltb-false, ltb-true, eqb-true}
+use Rattle.std.proofs.Common.{◌≡◌, ℕ, zero, suc, ◌+◌, ◌-◌, ◌*◌, ◌<◌, ◌≤◌, Bool, true, false, cond, ◌&&◌, eqb, List, [], ◌∷◌, length, get_or, take, drop, Ok, Err, Result, refl, ap, subst, ◌∙◌, ap₂, arith, ltb-false, ltb-true, eqb-true}
 use borrow.Author.Tests.{eqb-false}
 use Rattle.std.proofs.lemmas.Slice.{first_rest}
 use Rattle.std.proofs.lemmas.Bool.{ne_eqb, cond-false}
-use Rattle.std.specs.List.{between}
+use Rattle.std.specs.List.{between, list_all}
 use Rattle.rules.specs.declared.refusal.Refusal.{Refusal}
 use Rattle.rules.specs.declared.refusal.Refusal.TheVariants.{UnknownKind}
-use Rattle.rules.specs.Trace.{Record, advance, read, write, queue, big_endian, big_endian_from, decode, sized}
+use Rattle.rules.specs.Trace.{Record, advance, read, write, queue, printable, all_printable, big_endian, big_endian_from, decode, sized}
 
 -- what `omega` needs for the tests of a slice pattern
 pub ruleset tests = (arith, ltb-true, ltb-false, eqb-true, eqb-false)
@@ -41,9 +41,10 @@ pub write_fields : (xs : List ℕ) (port byte : ℕ) → length xs ≡ 3 → Two
 unfolding big_endian_from
 write_fields xs port byte = every_at 3 (λ ys. Two ys port → byte ≡ get_or ys 2 0 → ◌≡◌ {A = Result Record Refusal} (Ok (write port byte)) (sized 3 ys (write (big_endian (take 2 ys)) (big_endian (drop 2 ys))))) (λ a b v s t. ap₂ (λ (m n : ℕ). Ok (write m n)) (omega arith) (omega arith)) xs
 
-pub queue_fields : (xs : List ℕ) (tick port byte : ℕ) → length xs ≡ 11 → Eight xs tick → port ≡ get_or xs 8 0 * 256 + get_or xs 9 0 → byte ≡ get_or xs 10 0 → ◌≡◌ {A = Result Record Refusal} (Ok (queue tick port byte)) (sized 11 xs (queue (big_endian (take 8 xs)) (big_endian (take 2 (drop 8 xs))) (big_endian (drop 10 xs))))
+-- the tick's bytes `ts`, and the others `us`
+pub queue_fields : (xs ts us : List ℕ) (tick port byte : ℕ) → length xs ≡ 11 → ts ≡ take 8 xs → us ≡ drop 8 xs → Eight ts tick → Two us port → byte ≡ get_or us 2 0 → ◌≡◌ {A = Result Record Refusal} (Ok (queue tick port byte)) (sized 11 xs (queue (big_endian (take 8 xs)) (big_endian (take 2 (drop 8 xs))) (big_endian (drop 10 xs))))
 unfolding big_endian_from
-queue_fields xs tick port byte = every_at 11 (λ ys. Eight ys tick → port ≡ get_or ys 8 0 * 256 + get_or ys 9 0 → byte ≡ get_or ys 10 0 → ◌≡◌ {A = Result Record Refusal} (Ok (queue tick port byte)) (sized 11 ys (queue (big_endian (take 8 ys)) (big_endian (take 2 (drop 8 ys))) (big_endian (drop 10 ys))))) (λ a b c d e f g h i j k s t u. (let et : tick ≡ big_endian (a ∷ b ∷ c ∷ d ∷ e ∷ f ∷ g ∷ h ∷ []) = omega arith in let ep : port ≡ big_endian (i ∷ j ∷ []) = omega arith in let eb : byte ≡ big_endian (k ∷ []) = omega arith in cc)) xs
+queue_fields xs ts us tick port byte = every_at 11 (λ ys. ts ≡ take 8 ys → us ≡ drop 8 ys → Eight ts tick → Two us port → byte ≡ get_or us 2 0 → ◌≡◌ {A = Result Record Refusal} (Ok (queue tick port byte)) (sized 11 ys (queue (big_endian (take 8 ys)) (big_endian (take 2 (drop 8 ys))) (big_endian (drop 10 ys))))) (λ a b c d e f g h i j k p q s t u. (let et : tick ≡ big_endian (a ∷ b ∷ c ∷ d ∷ e ∷ f ∷ g ∷ h ∷ []) = omega (arith, subst (λ zs. Eight zs tick) p s) in let ep : port ≡ big_endian (i ∷ j ∷ []) = omega (arith, subst (λ zs. Two zs port) q t) in let eb : byte ≡ big_endian (k ∷ []) = omega (arith, subst (λ zs. byte ≡ get_or zs 2 0) q u) in cc)) xs
 
 module _ (xs : List ℕ) (some : 0 < length xs) where
   -- the kind, and the fields as the slice pattern has them
@@ -58,3 +59,8 @@ pub decode_none : (xs : List ℕ) → length xs < 1 → decode xs ≡ Err Unknow
 unfolding decode
 decode_none [] h = refl
 decode_none (x ∷ xs) h = absurd (omega arith)
+
+pub list_all_printable : (xs : List ℕ) → list_all printable xs ≡ all_printable xs
+unfolding all_printable
+list_all_printable [] = refl
+list_all_printable (x ∷ xs) = ap (λ (b : Bool). printable x && b) (list_all_printable xs)

@@ -1,12 +1,16 @@
 -- A run of notes does not depend on what other records do.
-use Rattle.std.proofs.Common.{◌≡◌, ℕ, zero, suc, ◌+◌, ◌-◌, ◌≤◌, Bool, true, false, ◌&&◌, ltb, List, [], ◌∷◌, ◌++◌, length, drop, sym, refl, ap, ◌∙◌, inl, inr, arith, length-drop}
+use Rattle.std.proofs.Common.{◌≡◌, ℕ, zero, suc, ◌+◌, ◌-◌, ◌≤◌, Bool, true, false, ◌&&◌, ltb, List, [], ◌∷◌, ◌++◌, length, drop, Ok, Err, None, Some, Option, Result, sym, refl, ap, ◌∙◌, inl, inr, arith, length-drop}
 use Rattle.std.proofs.lemmas.Bool.{false≢true, cases_Bool}
+use Rattle.std.specs.Option.{MatchOption}
+use Rattle.std.specs.Result.{result_ok}
 use Rattle.rules.specs.Trace.{Record, advance, read, write, acknowledge, queue, note, Performed, Next, at_end, fault, got, next, run_from, run_lines, note_line, on_board, standard, standard_board, printed}
 use Rattle.rules.specs.declared.refusal.Refusal.{Refusal}
 use Rattle.trace.specs.declared.reader.Reader.{Reader}
 use Rattle.trace.specs.Notes.{is_note, notes_from, only_notes, bare}
 use Rattle.trace.specs.Performing.{performed}
-use Rattle.trace.specs.Reading.{whole, left, moved, well_started}
+use Rattle.trace.specs.declared.record.Record as code
+use Rattle.trace.specs.Reading.{whole, left, well_started, GivesNext}
+use Rattle.trace.specs.Records.{meant}
 use Rattle.trace.proofs.Running.{turn, next_nil, moves_on, run_refused, run_started}
 
 abbrev checked : List ℕ → Bool → Bool
@@ -34,6 +38,20 @@ notes_got fuel [] r len rest h e = (let z : ◌≡◌ {A = ℕ} 0 1 = cc (next_n
 notes_got zero (x ∷ xs) r len rest h e = absurd (omega arith)
 notes_got (suc fuel) (x ∷ xs) r len rest h e = (fuel, refl, ap (noted fuel) e)
 
+-- the record that was read, if one was
+abbrev pub recorded : Option (Result code.Record Refusal) → Option code.Record
+recorded None = None
+recorded (Some s) = result_ok s
+
+pub recorded_is : (a : Option (Result code.Record Refusal)) (o : Option code.Record) (Q : Result code.Record Refusal → Type 0) → MatchOption a (o ≡ None) Q → ((s : Result code.Record Refusal) → Q s → o ≡ result_ok s) → o ≡ recorded a
+recorded_is None o Q h q = h
+recorded_is (Some s) o Q h q = q s h
+
+pub recorded_some : (a : Option (Result code.Record Refusal)) (x : code.Record) → recorded a ≡ Some x → a ≡ Some (Ok x)
+recorded_some None x e = (let z : ◌≡◌ {A = ℕ} 0 1 = cc in absurd (omega arith))
+recorded_some (Some (Err f)) x e = (let z : ◌≡◌ {A = ℕ} 0 1 = cc in absurd (omega arith))
+recorded_some (Some (Ok y)) x e = cc
+
 -- what is left decides the same as the whole
 pub record NotesLeft (all : Bool) (r : Reader) : Type 0 where
   pub fuel : ℕ
@@ -44,25 +62,30 @@ pub at_start : (r : Reader) → NotesLeft (notes_from (length (left r)) (left r)
 at_start r = record { fuel = length (left r); enough = omega arith; same = refl }
 
 module _ {all : Bool} {r : Reader} (h : NotesLeft all r) where
-  pub at_last : at_end ≡ next (left r) → true ≡ all
-  at_last n = notes_end h.fuel (left r) h.enough n ∙ h.same
+  at_last : {r' : Reader} → GivesNext r None r' → true ≡ all
+  at_last g = notes_end h.fuel (left r) h.enough g.next ∙ h.same
 
-  pub at_fault : {e : Refusal} → fault e ≡ next (left r) → true ≡ all
-  at_fault n = notes_fault h.fuel (left r) h.enough n ∙ h.same
+  at_fault : {r' : Reader} {e : Refusal} → GivesNext r (Some (Err e)) r' → true ≡ all
+  at_fault g = notes_fault h.fuel (left r) h.enough g.next ∙ h.same
 
-  module _ (r' : Reader) {x : Record} (place : r'.place ≡ moved (next (left r)) r.place) (n : got x (r'.place - r.place - 2) (left r') ≡ next (left r)) where
-    pub at_other : is_note x ≡ false → false ≡ all
+  pub at_stop : {r' : Reader} (a : Option (Result code.Record Refusal)) → recorded a ≡ None → GivesNext r a r' → true ≡ all
+  at_stop None e g = at_last g
+  at_stop (Some (Err f)) e g = at_fault g
+  at_stop (Some (Ok x)) e g = (let z : ◌≡◌ {A = ℕ} 0 1 = cc in absurd (omega arith))
+
+  module _ {r' : Reader} {x : code.Record} (g : GivesNext r (Some (Ok x)) r') where
+    pub at_other : is_note (meant x) ≡ false → false ≡ all
     at_other e =
-        (let (f, falls, step) = notes_got h.fuel (left r) x (r'.place - r.place - 2) (left r') h.enough n in
+        (let (f, falls, step) = notes_got h.fuel (left r) (meant x) (r'.place - r.place - 2) (left r') h.enough g.next in
         ap (λ (b : Bool). b && notes_from f (left r')) (sym e) ∙ step ∙ h.same)
 
-    pub at_note : is_note x ≡ true → whole r' ≡ whole r → NotesLeft all r'
-    at_note e same =
-        (let (f, falls, step) = notes_got h.fuel (left r) x (r'.place - r.place - 2) (left r') h.enough n in
-        let moves : r'.place ≡ r.place + 2 + (r'.place - r.place - 2) = moves_on r r' place n in
+    pub at_note : is_note (meant x) ≡ true → NotesLeft all r'
+    at_note e =
+        (let (f, falls, step) = notes_got h.fuel (left r) (meant x) (r'.place - r.place - 2) (left r') h.enough g.next in
+        let moves : r'.place ≡ r.place + 2 + (r'.place - r.place - 2) = moves_on g in
         record {
           fuel = f;
-          enough = omega (arith, ap length same, length-drop r'.place (whole r'), length-drop r.place (whole r));
+          enough = omega (arith, ap length g.same, length-drop r'.place (whole r'), length-drop r.place (whole r));
           same = ap (λ (b : Bool). b && notes_from f (left r')) (sym e) ∙ step ∙ h.same;
         })
 
@@ -109,9 +132,3 @@ board_prints_notes text place s = refl
 pub bare_printed : (room : ℕ) (trace : List ℕ) → only_notes trace ≡ true → run_lines bare room tt trace ≡ printed room trace
 unfolding printed
 bare_printed room trace h = same_lines bare (on_board standard) (λ text place s. refl) board_prints_notes room tt standard_board trace h
-
-pub only_started : (trace : List ℕ) → well_started trace ≡ true → notes_from (length (drop 1 trace)) (drop 1 trace) ≡ only_notes trace
-only_started trace e = ap (checked trace) (sym e)
-
-pub only_refused : (trace : List ℕ) → well_started trace ≡ false → true ≡ only_notes trace
-only_refused trace e = ap (checked trace) (sym e)

@@ -1,7 +1,9 @@
 -- A run, record by record.
-use Rattle.std.proofs.Common.{◌≡◌, ℕ, zero, suc, ◌+◌, ◌-◌, ◌<◌, ◌≤◌, Bool, true, false, ltb, List, [], ◌∷◌, ◌++◌, length, take, drop, sym, refl, ap, ◌∙◌, ap₂, inl, inr, append_assoc, arith, length-drop, length-take}
+use Rattle.std.proofs.Common.{◌≡◌, ℕ, zero, suc, ◌+◌, ◌-◌, ◌<◌, ◌≤◌, Bool, true, false, ltb, List, [], ◌∷◌, ◌++◌, length, take, drop, Ok, Err, Some, Result, sym, refl, ap, ◌∙◌, subst, ap₂, inl, inr, append_assoc, arith, length-drop, length-take}
 use Rattle.std.proofs.lemmas.List.{drop_all}
-use Rattle.std.proofs.lemmas.Bool.{lt-ltb, le-ltb, ltb-true, ltb-false, and_parts, and_cases, cases_lt, false≢true}
+use Rattle.std.proofs.lemmas.Bool.{lt-ltb, le-ltb, cases_lt, false≢true}
+use Rattle.std.proofs.lemmas.Result.{err_from_is_err_and}
+use Rattle.std.specs.Result.{MatchResult, IsErrAnd}
 use Rattle.rules.specs.Trace.{Record, Performed, Next, at_end, fault, got, next, run_from, run_lines, refusal_line, count_line}
 use Rattle.rules.specs.declared.refusal.Refusal.{Refusal}
 use Rattle.rules.specs.declared.refusal.Refusal.TheVariants.{NotATrace, OutputFull}
@@ -9,10 +11,13 @@ use Rattle.trace.specs.declared.output.Output.{Output}
 use Rattle.trace.specs.declared.reader.Reader.{Reader}
 use Rattle.trace.specs.Performing.{performed}
 use Rattle.trace.specs.Printing.{Printed, bytes_of, room_of, with_line}
-use Rattle.trace.specs.Reading.{whole, left, moved, well_started}
-use Rattle.trace.specs.Running.{full}
+use Rattle.trace.specs.declared.output.Refused.{Refused}
+use Rattle.trace.specs.declared.record.Record as code
+use Rattle.trace.specs.Reading.{whole, left, moved, well_started, GivesNext}
+use Rattle.trace.specs.Records.{meant}
+use Rattle.trace.specs.Running.{last_line, RunsTo}
 use Rattle.trace.proofs.Reading.{next_end}
-use Rattle.trace.proofs.Printing.{printed_then, printed_none, printed_as, length_with_line, place_after_is}
+use Rattle.trace.proofs.Printing.{printed_then, printed_none, printed_as, printed_to, length_with_line, place_after_is}
 
 ap₃ : {A B C D : Type 0} (f : A → B → C → D) {a a' : A} {b b' : B} {c c' : C} → a ≡ a' → b ≡ b' → c ≡ c' → f a b c ≡ f a' b' c'
 ap₃ f {a} {a'} {b} {b'} {c} {c'} p q r = ap₂ (λ x y. f x y c) p q ∙ ap (λ z. f a' b' z) r
@@ -21,20 +26,39 @@ pub next_nil : next [] ≡ at_end
 unfolding next
 next_nil = refl
 
--- a record moves the place
-pub moves_on : (r r' : Reader) {x : Record} → r'.place ≡ moved (next (left r)) r.place → got x (r'.place - r.place - 2) (left r') ≡ next (left r) → r'.place ≡ r.place + 2 + (r'.place - r.place - 2)
-moves_on r r' place n = place ∙ ap (λ (k : Next). moved k r.place) (sym n)
+module _ {r r' : Reader} {x : code.Record} (g : GivesNext r (Some (Ok x)) r') where
+  -- a record moves the place
+  pub moves_on : r'.place ≡ r.place + 2 + (r'.place - r.place - 2)
+  moves_on = g.place ∙ ap (λ (k : Next). moved k r.place) (sym g.next)
 
--- and stands within the trace
-pub within : (r : Reader) {x : Record} {len : ℕ} {rest : List ℕ} → got x len rest ≡ next (left r) → r.place < length (whole r)
-within r n =
-    elim (cases_lt r.place (length (whole r))) [
-      | inl h ↦ h
-      | inr h ↦ (let e : next (left r) ≡ at_end = next_end (whole r) r.place h in let z : ◌≡◌ {A = ℕ} 0 1 = cc in absurd (omega arith))
-    ]
+  -- and stands within the trace
+  within : r.place < length (whole r)
+  within =
+      elim (cases_lt r.place (length (whole r))) [
+        | inl h ↦ h
+        | inr h ↦ (let e : next (left r) ≡ at_end = next_end (whole r) r.place h in let n = g.next in let z : ◌≡◌ {A = ℕ} 0 1 = cc in absurd (omega arith))
+      ]
+
+  -- so that less is left
+  pub less_left : length (whole r') - r'.place < length (whole r) - r.place
+  less_left = omega (arith, moves_on, within, ap length g.same)
 
 room_after : (o o' : Output) (line : List ℕ) → Printed o line o' → room_of o' ≡ room_of o - length line
 room_after o o' line p = omega (arith, ap length p.bytes, length_with_line (bytes_of o) o.place line, p.place, place_after_is (bytes_of o) o.place line)
+
+-- a refusal, with its place beside it
+abbrev pub placed : ℕ → Result code.Record Refusal → Result code.Record Refused
+placed place (Ok x) = Ok x
+placed place (Err e) = Err (record { refusal = e; place = place })
+
+pub placed_is : (place : ℕ) (a : Result code.Record Refusal) (b : Result code.Record Refused) (Q : Refusal → Refused → Type 0) → MatchResult a (λ x. b ≡ Ok x) (λ e. IsErrAnd b (Q e)) → ((e : Refusal) (f : Refused) → Q e f → f ≡ record { refusal = e; place = place }) → b ≡ placed place a
+placed_is place (Ok x) b Q h q = h
+placed_is place (Err e) (Ok x) Q h q = absurd h
+placed_is place (Err e) (Err f) Q h q = ap (λ (r : Refused). Err r) (q e f h)
+
+pub placed_ok : (place : ℕ) (x : code.Record) (a : Result code.Record Refusal) → placed place a ≡ Ok x → a ≡ Ok x
+placed_ok place x (Ok y) e = cc
+placed_ok place x (Err r) e = (let z : ◌≡◌ {A = ℕ} 0 1 = cc in absurd (omega arith))
 
 module _ {S : Type 0} (perform : Record → ℕ → S → Performed S) where
   -- a turn of the run, by the two things that it looks at
@@ -63,22 +87,21 @@ module _ {S : Type 0} (perform : Record → ℕ → S → Performed S) where
     run_full zero (x ∷ xs) enough h l = absurd (omega arith)
     run_full (suc fuel) (x ∷ xs) enough h l = turned fuel x xs true (next (x ∷ xs)) (lt-ltb room 100 l) refl
 
-    run_end : (fuel : ℕ) (ys : List ℕ) → length ys ≤ fuel → (0 < length ys → 100 ≤ room) → at_end ≡ next ys → run_from perform fuel room place count s ys ≡ count_line count
+    run_end : (fuel : ℕ) (ys : List ℕ) → length ys ≡ 0 → run_from perform fuel room place count s ys ≡ count_line count
     unfolding run_from
-    run_end fuel [] enough h e = refl
-    run_end zero (x ∷ xs) enough h e = absurd (omega arith)
-    run_end (suc fuel) (x ∷ xs) enough h e = turned fuel x xs false at_end (le-ltb room 100 (h (omega arith))) (sym e)
+    run_end fuel [] e = refl
+    run_end fuel (x ∷ xs) e = absurd (omega arith)
 
-    run_fault : (fuel : ℕ) (ys : List ℕ) (r : Refusal) → length ys ≤ fuel → (0 < length ys → 100 ≤ room) → fault r ≡ next ys → run_from perform fuel room place count s ys ≡ refusal_line r place
+    run_fault : (fuel : ℕ) (ys : List ℕ) (r : Refusal) → length ys ≤ fuel → 100 ≤ room → fault r ≡ next ys → run_from perform fuel room place count s ys ≡ refusal_line r place
     run_fault fuel [] r enough h e = (let z : ◌≡◌ {A = ℕ} 0 1 = cc (next_nil) in absurd (omega arith))
     run_fault zero (x ∷ xs) r enough h e = absurd (omega arith)
-    run_fault (suc fuel) (x ∷ xs) r enough h e = turned fuel x xs false (fault r) (le-ltb room 100 (h (omega arith))) (sym e)
+    run_fault (suc fuel) (x ∷ xs) r enough h e = turned fuel x xs false (fault r) (le-ltb room 100 h) (sym e)
 
-    run_got : (fuel : ℕ) (ys : List ℕ) (r : Record) (len : ℕ) (rest : List ℕ) (line : List ℕ) (s' : S) → length ys ≤ fuel → (0 < length ys → 100 ≤ room) → got r len rest ≡ next ys → perform r place s ≡ performed line s' → (f : ℕ) × (fuel ≡ suc f) × (run_from perform fuel room place count s ys ≡ line ++ run_from perform f (room - length line) (place + 2 + len) (count + 1) s' rest)
+    run_got : (fuel : ℕ) (ys : List ℕ) (r : Record) (len : ℕ) (rest : List ℕ) (line : List ℕ) (s' : S) → length ys ≤ fuel → 100 ≤ room → got r len rest ≡ next ys → perform r place s ≡ performed line s' → (f : ℕ) × (fuel ≡ suc f) × (run_from perform fuel room place count s ys ≡ line ++ run_from perform f (room - length line) (place + 2 + len) (count + 1) s' rest)
     run_got fuel [] r len rest line s' enough h e d = (let z : ◌≡◌ {A = ℕ} 0 1 = cc (next_nil) in absurd (omega arith))
     run_got zero (x ∷ xs) r len rest line s' enough h e d = absurd (omega arith)
     run_got (suc fuel) (x ∷ xs) r len rest line s' enough h e d =
-        (fuel, refl, turned fuel x xs false (got r len rest) (le-ltb room 100 (h (omega arith))) (sym e) ∙ ap (λ (p : Performed S). p.line ++ run_from perform fuel (room - length p.line) (place + 2 + len) (count + 1) p.board rest) d)
+        (fuel, refl, turned fuel x xs false (got r len rest) (le-ltb room 100 h) (sym e) ∙ ap (λ (p : Performed S). p.line ++ run_from perform fuel (room - length p.line) (place + 2 + len) (count + 1) p.board rest) d)
 
   -- A run on the way: `done` is printed since `o₀`, and with what is still to come it makes up `all`.
   pub record SoFar (o₀ : Output) (all : List ℕ) (o : Output) (r : Reader) (count : ℕ) (s : S) : Type 0 where
@@ -93,41 +116,37 @@ module _ {S : Type 0} (perform : Record → ℕ → S → Performed S) where
   at_start o r s = record { fuel = length (left r); done = []; enough = omega arith; printed = printed_none o; lines = refl; counted = omega arith }
 
   module _ {o₀ : Output} {all : List ℕ} {o : Output} {r : Reader} {count : ℕ} {s : S} (h : SoFar o₀ all o r count s) where
-    -- the last line
-    ends : {q : Output} {line : List ℕ} → run_from perform h.fuel (room_of o) r.place count s (left r) ≡ line → Printed o line q → Printed o₀ all q
-    ends {q} {line} e p = printed_as (ap (λ (zs : List ℕ). h.done ++ zs) (sym e) ∙ h.lines) (printed_then h.printed p)
+    -- the end of a run: its last line is still to come
+    ends : {answer : Result ℕ Refused} → run_from perform h.fuel (room_of o) r.place count s (left r) ≡ last_line answer → RunsTo o₀ all answer o
+    ends {answer} e = record { lines = h.done; printed = h.printed; whole = ap (λ (zs : List ℕ). h.done ++ zs) (sym e) ∙ h.lines }
 
     left_some : r.place < length (whole r) → 0 < length (left r)
     left_some l = omega (arith, length-drop r.place (whole r))
 
-    goes_on : full r o ≡ false → 0 < length (left r) → 100 ≤ room_of o
-    goes_on e l =
-        elim (and_cases _ _ e) [
-          | inl a ↦ (let past : length (whole r) ≤ r.place = ltb-false r.place (length (whole r)) a in omega (arith, length-drop r.place (whole r)))
-          | inr b ↦ ltb-false (room_of o) 100 b
-        ]
+    pub at_full : {place : ℕ} → place ≡ r.place → r.place < length (whole r) → room_of o < 100 → RunsTo o₀ all (Err (record { refusal = OutputFull; place = place })) o
+    at_full {place} at more short = ends (run_full (room_of o) r.place count s h.fuel (left r) h.enough (left_some more) short ∙ ap (refusal_line OutputFull) (sym at))
 
-    pub at_full : {q : Output} → full r o ≡ true → Printed o (refusal_line OutputFull r.place) q → Printed o₀ all q
-    at_full e p =
-        (let (more, short) = and_parts _ _ e in
-        ends (run_full (room_of o) r.place count s h.fuel (left r) h.enough (left_some (ltb-true _ _ more)) (ltb-true _ _ short)) p)
+    pub at_last : length (whole r) ≤ r.place → RunsTo o₀ all (Ok count) o
+    at_last past = ends (run_end (room_of o) r.place count s h.fuel (left r) (omega (arith, length-drop r.place (whole r))))
 
-    pub at_last : {q : Output} → full r o ≡ false → at_end ≡ next (left r) → Printed o (count_line count) q → Printed o₀ all q
-    at_last e n p = ends (run_end (room_of o) r.place count s h.fuel (left r) h.enough (goes_on e) n) p
-
-    pub at_fault : {q : Output} {refusal : Refusal} → full r o ≡ false → fault refusal ≡ next (left r) → Printed o (refusal_line refusal r.place) q → Printed o₀ all q
-    at_fault {q} {refusal} e n p = ends (run_fault (room_of o) r.place count s h.fuel (left r) refusal h.enough (goes_on e) n) p
+    pub at_fault : {r' : Reader} {answer : Result ℕ Refused} {f : Refused} (place : ℕ) (a : Result code.Record Refusal) → place ≡ r.place → 100 ≤ room_of o → GivesNext r (Some a) r' → placed place a ≡ Err f → IsErrAnd answer (λ y. y ≡ f) → RunsTo o₀ all answer o
+    at_fault place (Ok x) at wide g e is = (let z : ◌≡◌ {A = ℕ} 0 1 = cc in absurd (omega arith))
+    at_fault {r'} {answer} {f} place (Err refusal) at wide g e is =
+        (let (y, was, same) = err_from_is_err_and answer is in
+        let f_is : f ≡ record { refusal = refusal; place = place } = cc in
+        let ran : RunsTo o₀ all (Err (record { refusal = refusal; place = place })) o = ends (run_fault (room_of o) r.place count s h.fuel (left r) refusal h.enough wide g.next ∙ ap (refusal_line refusal) (sym at)) in
+        subst (λ (x : Result ℕ Refused). RunsTo o₀ all x o) (sym (was ∙ ap (λ (z : Refused). Err z) (same ∙ f_is))) ran)
 
     -- a record carried out, and its line printed
-    pub at_record : {o' : Output} (r' : Reader) {s' : S} {x : Record} {line : List ℕ} → full r o ≡ false → whole r' ≡ whole r → r'.place ≡ moved (next (left r)) r.place → got x (r'.place - r.place - 2) (left r') ≡ next (left r) → perform x r.place s ≡ performed line s' → Printed o line o' → SoFar o₀ all o' r' (count + 1) s'
-    at_record {o'} r' {s'} {x} {line} e same place n d p =
+    pub at_record : {o' : Output} {r' : Reader} {s' : S} {x : code.Record} {line : List ℕ} {place : ℕ} → place ≡ r.place → 100 ≤ room_of o → GivesNext r (Some (Ok x)) r' → perform (meant x) place s ≡ performed line s' → Printed o line o' → SoFar o₀ all o' r' (count + 1) s'
+    at_record {o'} {r'} {s'} {x} {line} at wide g d p =
         (let len : ℕ = r'.place - r.place - 2 in
-        let moves : r'.place ≡ r.place + 2 + len = moves_on r r' place n in
-        let (f, falls, step) = run_got (room_of o) r.place count s h.fuel (left r) x len (left r') line s' h.enough (goes_on e) n d in
+        let moves : r'.place ≡ r.place + 2 + len = moves_on g in
+        let (f, falls, step) = run_got (room_of o) r.place count s h.fuel (left r) (meant x) len (left r') line s' h.enough wide g.next (ap (λ (n : ℕ). perform (meant x) n s) (sym at) ∙ d) in
         record {
           fuel = f;
           done = h.done ++ line;
-          enough = omega (arith, moves, falls, ap length same, length-drop r'.place (whole r'), length-drop r.place (whole r));
+          enough = omega (arith, moves, falls, ap length g.same, length-drop r'.place (whole r'), length-drop r.place (whole r));
           printed = printed_then h.printed p;
           lines =
               append_assoc h.done line (run_from perform f (room_of o') r'.place (count + 1) s' (left r'))
@@ -135,6 +154,17 @@ module _ {S : Type 0} (perform : Record → ℕ → S → Performed S) where
               ∙ h.lines;
           counted = omega (arith, moves, h.counted);
         })
+
+-- no line but the last
+pub refused_at_once : {o p : Output} {all : List ℕ} {refusal : Refusal} {answer : Result ℕ Refused} → refusal_line refusal 0 ≡ all → answer ≡ Err (record { refusal = refusal; place = 0 }) → p ≡ o → RunsTo o all answer p
+refused_at_once {o} {p} e a h = record { lines = []; printed = printed_to (sym h) (printed_none o); whole = ap last_line a ∙ e }
+
+pub runs_as : {o p q : Output} {all all' : List ℕ} {answer answer' : Result ℕ Refused} → all ≡ all' → answer' ≡ answer → q ≡ p → RunsTo o all answer p → RunsTo o all' answer' q
+runs_as e a h r = record { lines = r.lines; printed = printed_to (sym h) r.printed; whole = ap (λ (x : Result ℕ Refused). r.lines ++ last_line x) a ∙ r.whole ∙ e }
+
+-- the last line behind the others
+pub whole_run : {o p q : Output} {all line : List ℕ} {answer : Result ℕ Refused} → RunsTo o all answer p → last_line answer ≡ line → Printed p line q → Printed o all q
+whole_run {line = line} h e p = printed_as (ap (λ (zs : List ℕ). h.lines ++ zs) (sym e) ∙ h.whole) (printed_then h.printed p)
 
 -- the start of a run
 module _ {S : Type 0} (perform : Record → ℕ → S → Performed S) (room : ℕ) (s : S) where

@@ -2,7 +2,8 @@
 use Rattle.std.specs.Prelude.{◌≡◌, ℕ, zero, suc, ◌+◌, ◌/◌, ◌%◌, ◌^◌, ◌<◌, ◌≤◌, true, List, [], ◌∷◌, ◌++◌, length, drop}
 use Rattle.rules.specs.Trace.{Record, advance, read, write, acknowledge, queue, note, all_printable, at_end, got, next}
 
--- A number in so many bytes, the highest first.
+-- A number in so many bytes, the highest first. The library's `bytes_high_first` has the same values; this form takes the
+-- lowest byte off, by which reading back is proved.
 abbrev pub in_bytes : ℕ → ℕ → List ℕ
 in_bytes zero n = []
 in_bytes (suc k) n = in_bytes k (n / 256) ++ (n % 256 ∷ [])

@@ -6,13 +6,13 @@ use Rattle.trace.specs.declared.output.Line.TheVariants.{Advanced, Read, Wrote, 
 use Rattle.trace.specs.declared.output.Output.{Output}
 
 abbrev pub line_bytes : Line → List ℕ
-line_bytes (Advanced time edges) = advance_line time edges
+line_bytes (Advanced e) = advance_line e.time e.edges
 line_bytes (Read port byte) = access_line 82 port byte
 line_bytes (Wrote port byte) = access_line 87 port byte
 line_bytes (Acknowledged vector) = vector_line vector
 line_bytes (Queued tick) = queue_line tick
 line_bytes (Note text) = note_line text.now
-line_bytes (Refused refusal place) = refusal_line refusal place
+line_bytes (Refused r) = refusal_line r.refusal r.place
 line_bytes (Records count) = count_line count
 
 abbrev pub bytes_of : Output → List ℕ
@@ -26,7 +26,7 @@ room_of o = length (bytes_of o) - o.place
 abbrev pub with_line : List ℕ → ℕ → List ℕ → List ℕ
 with_line bytes place line = take place bytes ++ (take (length bytes - place) line ++ drop (place + length line) bytes)
 
--- `p` is `o` after `line` was printed; it lends the same buffer.
+-- `p` is `o` after `line` was printed; it borrows the same buffer.
 pub record Printed (o : Output) (line : List ℕ) (p : Output) : Type 0 where
   pub bytes : bytes_of p ≡ with_line (bytes_of o) o.place line
   pub place : p.place ≡ o.place + length (take (room_of o) line)

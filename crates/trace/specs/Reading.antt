@@ -1,9 +1,9 @@
 -- A reader's place in its trace, and what it says there in the rules' words.
-use Rattle.std.specs.Prelude.{ℕ, ◌+◌, Bool, false, ◌&&◌, List, [], ◌∷◌, length, drop, ◌==◌, nat_lt}
-use Rattle.rules.specs.Trace.{Next, at_end, fault, got, version, longest_trace}
+use Rattle.std.specs.Prelude.{◌≡◌, ℕ, ◌+◌, ◌-◌, Bool, false, ◌&&◌, List, [], ◌∷◌, length, drop, None, Some, Ok, Err, Option, Result, ◌==◌, nat_lt}
+use Rattle.rules.specs.Trace.{Next, at_end, fault, got, next, version, longest_trace}
+use Rattle.rules.specs.declared.refusal.Refusal.{Refusal}
 use Rattle.trace.specs.declared.reader.Reader.{Reader}
-use Rattle.trace.specs.declared.record.Step.{Step}
-use Rattle.trace.specs.declared.record.Step.TheVariants.{End, Fault, Record}
+use Rattle.trace.specs.declared.record.Record.{Record}
 use Rattle.trace.specs.Records.{meant}
 
 abbrev pub whole : Reader → List ℕ
@@ -19,13 +19,19 @@ well_started [] = false
 well_started (v ∷ bytes) = v == version && nat_lt (length bytes) longest_trace
 
 -- What was answered, where a record of `len` counted bytes left `rest`.
-abbrev pub said : Step → ℕ → List ℕ → Next
-said End len rest = at_end
-said (Fault e) len rest = fault e
-said (Record r) len rest = got (meant r) len rest
+abbrev pub said : Option (Result Record Refusal) → ℕ → List ℕ → Next
+said None len rest = at_end
+said (Some (Err e)) len rest = fault e
+said (Some (Ok r)) len rest = got (meant r) len rest
 
 -- Only a record moves the place: by its length field and its counted bytes.
 abbrev pub moved : Next → ℕ → ℕ
 moved at_end place = place
 moved (fault e) place = place
 moved (got r len rest) place = place + 2 + len
+
+-- `r` answers what the rules have at its place, and is `t` then.
+pub record GivesNext (r : Reader) (answer : Option (Result Record Refusal)) (t : Reader) : Type 0 where
+  pub same : whole t ≡ whole r
+  pub place : t.place ≡ moved (next (left r)) r.place
+  pub next : said answer (t.place - r.place - 2) (left t) ≡ next (left r)

@@ -10,7 +10,7 @@ meant (Advance n) = rules.Record.advance n
 meant (Read port) = rules.Record.read port
 meant (Write port byte) = rules.Record.write port byte
 meant Acknowledge = rules.Record.acknowledge
-meant (Queue tick port byte) = rules.Record.queue tick port byte
+meant (Queue write) = rules.Record.queue write.tick write.port write.byte
 meant (Note text) = rules.Record.note text.now
 
 abbrev pub decoded : Result Record Refusal → Result rules.Record Refusal

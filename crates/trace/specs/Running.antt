@@ -1,11 +1,17 @@
--- A run on the way.
-use Rattle.std.specs.Prelude.{Bool, ◌&&◌, length, nat_lt}
-use Rattle.rules.specs.Trace.{room_needed}
+-- A run on the way, and its end.
+use Rattle.std.specs.Prelude.{◌≡◌, ℕ, List, ◌++◌, Ok, Err, Result}
+use Rattle.rules.specs.Trace.{count_line, refusal_line}
 use Rattle.trace.specs.declared.output.Output.{Output}
-use Rattle.trace.specs.declared.reader.Reader.{Reader}
-use Rattle.trace.specs.Printing.{room_of}
-use Rattle.trace.specs.Reading.{whole}
+use Rattle.trace.specs.declared.output.Refused.{Refused}
+use Rattle.trace.specs.Printing.{Printed}
 
--- The trace goes on, and there is too little room for a record.
-abbrev pub full : Reader → Output → Bool
-full r o = nat_lt r.place (length (whole r)) && nat_lt (room_of o) room_needed
+-- The last line: the count, or the refusal that ended the run.
+abbrev pub last_line : Result ℕ Refused → List ℕ
+last_line (Ok count) = count_line count
+last_line (Err r) = refusal_line r.refusal r.place
+
+-- `p` is `o` after all lines but the last were printed, which the answer tells.
+pub record RunsTo (o : Output) (all : List ℕ) (answer : Result ℕ Refused) (p : Output) : Type 0 where
+  pub lines : List ℕ
+  pub printed : Printed o lines p
+  pub whole : lines ++ last_line answer ≡ all

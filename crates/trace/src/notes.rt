@@ -7,9 +7,9 @@ ghost use Rattle.trace.specs.Records.{meant};
 
 use crate::machine::{Elapsed, Machine};
 use crate::reader::Reader;
-use crate::record::{Record, Step};
+use crate::record::Record;
 use crate::run::run_trace;
-use rules::Refusal;
+use rules::{QueuedWrite, Refusal};
 
 // A machine with nothing on it. It stands in for the board where no record needs one.
 #[derive(Drop)]
@@ -29,16 +29,16 @@ impl Machine for Bare {
     }
 
     fn read(&mut self, _port: u16) -> u8 {
-        0xff
+        0xFF
     }
 
     fn write(&mut self, _port: u16, _byte: u8) {}
 
     fn acknowledge(&mut self) -> u8 {
-        0xff
+        0xFF
     }
 
-    fn queue(&mut self, _tick: u64, _port: u16, _byte: u8) -> Result<(), Refusal> {
+    fn queue(&mut self, _write: QueuedWrite) -> Result<(), Refusal> {
         Err(Refusal::QueueFull)
     }
 }
@@ -50,36 +50,26 @@ fn is_note(record: Record<'_>) -> bool
 }
 
 // Whether every record that is left, up to the first fault, is a note.
-fn left_are_notes(reader: &mut Reader<'_>) -> bool
-    ensures { result ≡ notes_from (length (left reader.old)) (left reader.old) }
+fn left_are_notes(mut reader: Reader<'_>) -> bool
+    ensures { result ≡ notes_from (length (left reader.entry)) (left reader.entry) }
 {
-    loop {
-        match reader.next() {
-            Step::Record(record) => {
-                if !is_note(record) {
-                    return false;
-                }
-            }
-            Step::Fault(_) => return true,
-            Step::End => return true,
+    while let Some(record) = reader.next().and_then(Result::ok) {
+        if !is_note(record) {
+            return false;
         }
     }
+    true
 }
 
 // Whether no record before the first fault needs a board.
 pub fn is_only_notes(trace: &[u8]) -> bool
     ensures { result ≡ only_notes trace.now }
 {
-    match Reader::new(trace) {
-        Err(_) => true,
-        Ok(reader) => {
-            let mut reader = reader;
-            left_are_notes(&mut reader)
-        }
-    }
+    Reader::new(trace).map_or(true, left_are_notes)
 }
 
 // Runs a trace that needs no board, as `run_trace` does. Any other trace gives `None`, and `out` is not touched.
+// This is no `is_only_notes(trace).then(..)`: it was tried, and its contract says nothing of `out` where the closure isn't called.
 pub fn run_notes(trace: &[u8], out: &mut [u8]) -> Option<usize>
     ensures { elim result [ None ↦ (only_notes trace.now ≡ false) × (out.new ≡ out.old) | Some n ↦ (only_notes trace.now ≡ true) × (n ≡ length (take (length out.old) (rules.printed (length out.old) trace.now))) × (out.new ≡ take (length out.old) (rules.printed (length out.old) trace.now) ++ drop n out.old) ] }
 {

@@ -1,8 +1,8 @@
 // The records of a trace.
-use rules::Refusal;
+use rules::QueuedWrite;
 
-// A record as the trace has it: a note lends its text from the trace, the others hold their numbers.
-#[derive(Clone, Copy, Debug)]
+// A record as the trace has it: a note borrows its text from the trace, the others hold their numbers.
+#[derive(Clone, Copy, PartialEq, Eq, Debug)]
 pub enum Record<'a> {
     // Let so many ticks pass.
     Advance(u64),
@@ -13,17 +13,7 @@ pub enum Record<'a> {
     // Acknowledge an interrupt.
     Acknowledge,
     // Write a byte to a port at a later tick.
-    Queue { tick: u64, port: u16, byte: u8 },
+    Queue(QueuedWrite),
     // Text that is only printed.
     Note(&'a [u8]),
-}
-
-// What stands at a place of a trace.
-#[derive(Clone, Copy, Debug)]
-pub enum Step<'a> {
-    // No byte is left.
-    End,
-    // What stands there cannot be read, and why.
-    Fault(Refusal),
-    Record(Record<'a>),
 }

@@ -1,30 +1,27 @@
 // Runs a trace: every record in turn, and its line.
-ghost use Rattle.std.specs.Prelude.{◌≡◌, ℕ, List, ◌++◌, length, take, drop};
+ghost use Rattle.std.specs.Prelude.{◌≡◌, ℕ, ◌++◌, length, take, drop};
 ghost use Rattle.rules.specs.Trace as rules;
-ghost use Rattle.trace.specs.Performing.{performed};
-ghost use Rattle.trace.specs.Printing.{Printed, room_of, line_bytes};
+ghost use Rattle.trace.specs.Performing.{performed, reply_bytes};
+ghost use Rattle.trace.specs.Printing.{room_of};
 ghost use Rattle.trace.specs.Reading.{left};
-ghost use Rattle.trace.specs.Running.{full};
+ghost use Rattle.trace.specs.Running.{RunsTo};
 ghost use Rattle.trace.specs.Records.{meant};
 
-use crate::machine::{Elapsed, Machine};
-use crate::output::{Line, Output};
+use crate::machine::Machine;
+use crate::output::{Line, Output, Refused};
 use crate::reader::Reader;
-use crate::record::{Record, Step};
+use crate::record::Record;
 use rules::Refusal;
 
 // Before each record that much output has to remain.
 const ROOM_NEEDED: usize = 100;
 
-// Carries a record out, and gives its line. A refusal names the record's place.
-fn perform<'a, M: Machine>(machine: &mut M, record: Record<'a>, place: usize) -> Line<'a>
-    ensures { M.Machine.performs (meant «record».entry) place (M.Machine.state machine.old) ≡ performed (line_bytes result) (M.Machine.state machine.new) }
+// Carries a record out, and gives its line.
+fn perform<'a, M: Machine>(machine: &mut M, record: Record<'a>) -> Result<Line<'a>, Refusal>
+    ensures { (place : ℕ) → M.Machine.performs (meant «record».entry) place (M.Machine.state machine.old) ≡ performed (reply_bytes result place) (M.Machine.state machine.new) }
 {
-    match record {
-        Record::Advance(ticks) => match machine.advance(ticks) {
-            Ok(Elapsed { time, edges }) => Line::Advanced { time, edges },
-            Err(refusal) => Line::Refused { refusal, place },
-        },
+    Ok(match record {
+        Record::Advance(ticks) => Line::Advanced(machine.advance(ticks)?),
         Record::Read(port) => Line::Read {
             port,
             byte: machine.read(port),
@@ -34,48 +31,43 @@ fn perform<'a, M: Machine>(machine: &mut M, record: Record<'a>, place: usize) ->
             Line::Wrote { port, byte }
         }
         Record::Acknowledge => Line::Acknowledged(machine.acknowledge()),
-        Record::Queue { tick, port, byte } => match machine.queue(tick, port, byte) {
-            Ok(()) => Line::Queued(tick),
-            Err(refusal) => Line::Refused { refusal, place },
-        },
+        Record::Queue(write) => {
+            machine.queue(write)?;
+            Line::Queued(write.tick)
+        }
         Record::Note(text) => Line::Note(text),
-    }
+    })
 }
 
-// Whether the trace goes on, and there is too little room for a record.
-fn is_full(reader: &Reader<'_>, output: &Output<'_>) -> bool
-    ensures { result ≡ full reader.now output.now }
-{
-    !reader.at_end() && output.room() < ROOM_NEEDED
-}
-
-// Runs what is left of a trace, and prints the lines: one for each record, and the count or the refusal that ends it.
-fn run_records<M: Machine>(machine: &mut M, reader: &mut Reader<'_>, output: &mut Output<'_>)
-    ensures { Printed output.old (rules.run_from M.Machine.performs (length (left reader.old)) (room_of output.old) reader.old.place 0 (M.Machine.state machine.old) (left reader.old)) output.new }
+// Carries out what is left of a trace, and prints each record's line. The answer is how many records there were, or the
+// refusal that ends the run. The room and the place are looked at before each record is read, so this is no `for`.
+fn run_records<M: Machine>(
+    machine: &mut M,
+    mut reader: Reader<'_>,
+    output: &mut Output<'_>,
+) -> Result<usize, Refused>
+    ensures { RunsTo output.old (rules.run_from M.Machine.performs (length (left reader.entry)) (room_of output.old) reader.entry.place 0 (M.Machine.state machine.old) (left reader.entry)) result output.new }
 {
     let mut count = 0;
-    loop {
+    while !reader.at_end() {
         let place = reader.place();
-        if is_full(reader, output) {
-            output.refused(Refusal::OutputFull, place);
-            return;
+        if output.room() < ROOM_NEEDED {
+            return Err(Refused {
+                refusal: Refusal::OutputFull,
+                place,
+            });
         }
-        match reader.next() {
-            Step::End => {
-                output.records(count);
-                return;
-            }
-            Step::Fault(refusal) => {
-                output.refused(refusal, place);
-                return;
-            }
-            Step::Record(record) => {
-                let line = perform(machine, record, place);
-                output.line(line);
-                count += 1;
-            }
-        }
+        let record = reader
+            .record()
+            .map_err(|refusal| Refused { refusal, place })?;
+        // `unwrap_or_else` was tried: the borrow checker does not cover it where the result has a lifetime.
+        output.line(match perform(machine, record) {
+            Ok(line) => line,
+            Err(refusal) => Line::Refused(Refused { refusal, place }),
+        });
+        count += 1;
     }
+    Ok(count)
 }
 
 // Runs a trace on a machine, and prints its lines into `out`, as far as there is room. The answer is how many bytes
@@ -85,12 +77,13 @@ pub fn run_trace<M: Machine>(machine: &mut M, trace: &[u8], out: &mut [u8]) -> u
     ensures lines { out.new ≡ take (length out.old) (rules.run_lines M.Machine.performs (length out.old) (M.Machine.state machine.old) trace.now) ++ drop result out.old }
 {
     let mut output = Output::new(out);
-    match Reader::new(trace) {
-        Err(refusal) => output.refused(refusal, 0),
-        Ok(reader) => {
-            let mut reader = reader;
-            run_records(machine, &mut reader, &mut output);
-        }
-    }
+    let run = match Reader::new(trace) {
+        Ok(reader) => run_records(machine, reader, &mut output),
+        Err(refusal) => Err(Refused { refusal, place: 0 }),
+    };
+    output.line(match run {
+        Ok(count) => Line::Records(count),
+        Err(refused) => Line::Refused(refused),
+    });
     output.place()
 }

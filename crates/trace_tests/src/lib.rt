@@ -5,14 +5,16 @@
 mod tests {
     use rules::Refusal;
     use std::alloc::Global;
+    use std::iter::repeat_n;
     use std::process::Abort;
     use std::test::Fail;
-    use trace::{Line, Output, run_notes};
+    use trace::{Elapsed, Line, Output, Refused, run_notes};
 
     // Three notes, one of them empty. Their length fields start at 1, 6 and 9.
     const NOTES: [u8; 13] = *b"\x01\x00\x03\x06ab\x00\x01\x06\x00\x02\x06c";
 
-    // Holds a run with so much room to the lines that it must print.
+    // Holds a run with so much room to the lines that it must print. `shows` does so for one line; a closure for what fills
+    // the buffer would be no plainer, since a run can need a board and a line cannot.
     fn prints(
         rt: &impl Abort,
         heap: Global,
@@ -21,42 +23,51 @@ mod tests {
         want: &[u8],
     ) -> Result<(), Fail> {
         let mut out = vec![in heap; 0u8; room]?;
-        let printed = run_notes(trace, out.as_mut_slice()).ok_or("a record needs a board")?;
+        let printed = run_notes(trace, &mut out).ok_or("a record needs a board")?;
         out.truncate(printed);
         assert!(rt; out.as_slice() == want);
+        Ok(())
+    }
+
+    // The same of each trace in turn, with room for all its lines.
+    fn each_prints(rt: &impl Abort, heap: Global, cases: &[(&[u8], &[u8])]) -> Result<(), Fail> {
+        for (trace, want) in cases {
+            prints(rt, heap, trace, 200, want)?;
+        }
         Ok(())
     }
 
     // A trace of a note of so many bytes.
     fn note_of(heap: Global, text: usize, field: u8) -> Result<Vec<u8>, Fail> {
         let mut trace = vec![in heap; 1, 0, field, 6]?;
-        let text = vec![in heap; b'x'; text]?;
-        trace.extend_from_slice(text.as_slice())?;
+        trace.extend(repeat_n(b'x', text))?;
         Ok(trace)
     }
 
     // A trace of so many bytes behind the version, all 0.
     fn zeros(heap: Global, count: usize) -> Result<Vec<u8>, Fail> {
         let mut trace = vec![in heap; 1u8]?;
-        let rest = vec![in heap; 0u8; count]?;
-        trace.extend_from_slice(rest.as_slice())?;
+        trace.extend(repeat_n(0, count))?;
         Ok(trace)
     }
 
     #[test]
     fn starts(rt: HostRuntime) -> Result<(), Fail> {
-        prints(&rt, rt.alloc(), b"", 200, b"! 1 T 0\n")?;
-        prints(&rt, rt.alloc(), b"\x02", 200, b"! 1 T 0\n")?;
-        prints(&rt, rt.alloc(), b"\x00\x01\x06", 200, b"! 1 T 0\n")?;
-        prints(&rt, rt.alloc(), b"\x01", 200, b". 0\n")
+        let cases: [(&[u8], &[u8]); 4] = [
+            (b"", b"! 1 T 0\n"),
+            (b"\x02", b"! 1 T 0\n"),
+            (b"\x00\x01\x06", b"! 1 T 0\n"),
+            (b"\x01", b". 0\n"),
+        ];
+        each_prints(&rt, rt.alloc(), &cases)
     }
 
     #[test]
     fn refuses_long_traces(rt: HostRuntime) -> Result<(), Fail> {
         let longest = zeros(rt.alloc(), 65535)?;
-        prints(&rt, rt.alloc(), longest.as_slice(), 200, b"! 3 T 1\n")?;
+        prints(&rt, rt.alloc(), &longest, 200, b"! 3 T 1\n")?;
         let too_long = zeros(rt.alloc(), 65536)?;
-        prints(&rt, rt.alloc(), too_long.as_slice(), 200, b"! 1 T 0\n")
+        prints(&rt, rt.alloc(), &too_long, 200, b"! 1 T 0\n")
     }
 
     #[test]
@@ -79,79 +90,73 @@ mod tests {
 
     #[test]
     fn refuses_kinds(rt: HostRuntime) -> Result<(), Fail> {
-        prints(&rt, rt.alloc(), b"\x01\x00\x00", 200, b"! 3 T 1\n")?;
-        prints(&rt, rt.alloc(), b"\x01\x00\x01\x00", 200, b"! 3 T 1\n")?;
-        prints(&rt, rt.alloc(), b"\x01\x00\x01\x07", 200, b"! 3 T 1\n")?;
-        // What is cut off is not looked at.
-        prints(&rt, rt.alloc(), b"\x01\x00\x02\x07", 200, b"! 2 T 1\n")
+        let cases: [(&[u8], &[u8]); 4] = [
+            (b"\x01\x00\x00", b"! 3 T 1\n"),
+            (b"\x01\x00\x01\x00", b"! 3 T 1\n"),
+            (b"\x01\x00\x01\x07", b"! 3 T 1\n"),
+            // What is cut off is not looked at.
+            (b"\x01\x00\x02\x07", b"! 2 T 1\n"),
+        ];
+        each_prints(&rt, rt.alloc(), &cases)
     }
 
     #[test]
     fn refuses_lengths(rt: HostRuntime) -> Result<(), Fail> {
-        prints(
-            &rt,
-            rt.alloc(),
-            b"\x01\x00\x08\x01\x00\x00\x00\x00\x00\x00\x00",
-            200,
-            b"! 4 T 1\n",
-        )?;
-        prints(&rt, rt.alloc(), b"\x01\x00\x02\x02\x00", 200, b"! 4 T 1\n")?;
-        prints(
-            &rt,
-            rt.alloc(),
-            b"\x01\x00\x05\x03\x00\x00\x00\x00",
-            200,
-            b"! 4 T 1\n",
-        )?;
-        prints(&rt, rt.alloc(), b"\x01\x00\x02\x04\x00", 200, b"! 4 T 1\n")?;
-        prints(&rt, rt.alloc(), b"\x01\x00\x01\x05", 200, b"! 4 T 1\n")
+        let cases: [(&[u8], &[u8]); 5] = [
+            (
+                b"\x01\x00\x08\x01\x00\x00\x00\x00\x00\x00\x00",
+                b"! 4 T 1\n",
+            ),
+            (b"\x01\x00\x02\x02\x00", b"! 4 T 1\n"),
+            (b"\x01\x00\x05\x03\x00\x00\x00\x00", b"! 4 T 1\n"),
+            (b"\x01\x00\x02\x04\x00", b"! 4 T 1\n"),
+            (b"\x01\x00\x01\x05", b"! 4 T 1\n"),
+        ];
+        each_prints(&rt, rt.alloc(), &cases)
     }
 
     #[test]
     fn reads_notes(rt: HostRuntime) -> Result<(), Fail> {
-        prints(
-            &rt,
-            rt.alloc(),
-            b"\x01\x00\x03\x06\x20\x7e",
-            200,
-            b"#  ~\n. 1\n",
-        )?;
-        prints(&rt, rt.alloc(), b"\x01\x00\x02\x06\x1f", 200, b"! 5 T 1\n")?;
-        prints(&rt, rt.alloc(), b"\x01\x00\x02\x06\x7f", 200, b"! 5 T 1\n")?;
+        let cases: [(&[u8], &[u8]); 3] = [
+            (b"\x01\x00\x03\x06\x20\x7e", b"#  ~\n. 1\n"),
+            (b"\x01\x00\x02\x06\x1f", b"! 5 T 1\n"),
+            (b"\x01\x00\x02\x06\x7f", b"! 5 T 1\n"),
+        ];
+        each_prints(&rt, rt.alloc(), &cases)?;
         let longest = note_of(rt.alloc(), 80, 81)?;
         prints(
             &rt,
             rt.alloc(),
-            longest.as_slice(),
+            &longest,
             200,
             b"# xxxxxxxxxxxxxxxxxxxxxxxxxxxxxxxxxxxxxxxxxxxxxxxxxxxxxxxxxxxxxxxxxxxxxxxxxxxxxxxx\n. 1\n",
         )?;
         let too_long = note_of(rt.alloc(), 81, 82)?;
-        prints(&rt, rt.alloc(), too_long.as_slice(), 200, b"! 4 T 1\n")
+        prints(&rt, rt.alloc(), &too_long, 200, b"! 4 T 1\n")
     }
 
     #[test]
     fn runs_out_of_room(rt: HostRuntime) -> Result<(), Fail> {
-        prints(&rt, rt.alloc(), b"\x01\x00\x01\x06", 100, b"# \n. 1\n")?;
-        prints(&rt, rt.alloc(), b"\x01\x00\x01\x06", 99, b"! 10 T 1\n")?;
-        prints(
-            &rt,
-            rt.alloc(),
-            b"\x01\x00\x01\x06\x00\x01\x06",
-            102,
-            b"# \n! 10 T 4\n",
-        )?;
-        // Before the cut-off is seen, and cut to the room itself.
-        prints(&rt, rt.alloc(), b"\x01\x00", 3, b"! 1")?;
-        prints(&rt, rt.alloc(), b"\x01", 2, b". ")?;
-        prints(&rt, rt.alloc(), b"\x01", 0, b"")
+        let cases: [(&[u8], usize, &[u8]); 6] = [
+            (b"\x01\x00\x01\x06", 100, b"# \n. 1\n"),
+            (b"\x01\x00\x01\x06", 99, b"! 10 T 1\n"),
+            (b"\x01\x00\x01\x06\x00\x01\x06", 102, b"# \n! 10 T 4\n"),
+            // Before the cut-off is seen, and cut to the room itself.
+            (b"\x01\x00", 3, b"! 1"),
+            (b"\x01", 2, b". "),
+            (b"\x01", 0, b""),
+        ];
+        for (trace, room, want) in &cases {
+            prints(&rt, rt.alloc(), trace, *room, want)?;
+        }
+        Ok(())
     }
 
     #[test]
     fn leaves_boards_alone(rt: HostRuntime) -> Result<(), Fail> {
         let mut out = [7u8; 4];
         assert!(rt; run_notes(b"\x01\x00\x01\x06\x00\x01\x04", &mut out).is_none());
-        assert!(rt; out[0] == 7 && out[1] == 7 && out[2] == 7 && out[3] == 7);
+        assert!(rt; out == [7u8; 4]);
         // A record behind the first fault is not reached.
         prints(
             &rt,
@@ -160,32 +165,6 @@ mod tests {
             200,
             b"! 3 T 1\n",
         )
-    }
-
-    // A line of each format.
-    fn sample(which: u8) -> Line<'static> {
-        match which {
-            0 => Line::Advanced {
-                time: 281474976710656,
-                edges: 0,
-            },
-            1 => Line::Read {
-                port: 0x03f8,
-                byte: 0xab,
-            },
-            2 => Line::Wrote {
-                port: 0xffff,
-                byte: 0x09,
-            },
-            3 => Line::Acknowledged(0x7c),
-            4 => Line::Queued(18446744073709551615),
-            5 => Line::Note(b"a note"),
-            6 => Line::Refused {
-                refusal: Refusal::QueueFull,
-                place: 65535,
-            },
-            _ => Line::Records(10),
-        }
     }
 
     // Holds a line, printed with so much room, to the bytes that it must have.
@@ -197,7 +176,7 @@ mod tests {
         want: &[u8],
     ) -> Result<(), Fail> {
         let mut buffer = vec![in heap; 0u8; room]?;
-        let printed = print(line, buffer.as_mut_slice());
+        let printed = print(line, &mut buffer);
         buffer.truncate(printed);
         assert!(rt; buffer.as_slice() == want);
         Ok(())
@@ -209,16 +188,43 @@ mod tests {
         output.place()
     }
 
+    // A line of each format.
     #[test]
     fn prints_lines(rt: HostRuntime) -> Result<(), Fail> {
-        shows(&rt, rt.alloc(), sample(0), 64, b"+ 281474976710656 0\n")?;
-        shows(&rt, rt.alloc(), sample(1), 64, b"R 03F8 AB\n")?;
-        shows(&rt, rt.alloc(), sample(2), 64, b"W FFFF 09\n")?;
-        shows(&rt, rt.alloc(), sample(3), 64, b"I 7C\n")?;
-        shows(&rt, rt.alloc(), sample(4), 64, b"Q 18446744073709551615\n")?;
-        shows(&rt, rt.alloc(), sample(5), 64, b"# a note\n")?;
-        shows(&rt, rt.alloc(), sample(6), 64, b"! 9 Q 65535\n")?;
-        shows(&rt, rt.alloc(), sample(7), 64, b". 10\n")?;
-        shows(&rt, rt.alloc(), sample(7), 3, b". 1")
+        let advanced = Line::Advanced(Elapsed {
+            time: 281474976710656,
+            edges: 0,
+        });
+        let read = Line::Read {
+            port: 0x03F8,
+            byte: 0xAB,
+        };
+        let wrote = Line::Wrote {
+            port: 0xFFFF,
+            byte: 0x09,
+        };
+        let refused = Line::Refused(Refused {
+            refusal: Refusal::QueueFull,
+            place: 65535,
+        });
+        let cases: [(Line<'_>, usize, &[u8]); 9] = [
+            (advanced, 64, b"+ 281474976710656 0\n"),
+            (read, 64, b"R 03F8 AB\n"),
+            (wrote, 64, b"W FFFF 09\n"),
+            (Line::Acknowledged(0x7C), 64, b"I 7C\n"),
+            (
+                Line::Queued(18446744073709551615),
+                64,
+                b"Q 18446744073709551615\n",
+            ),
+            (Line::Note(b"a note"), 64, b"# a note\n"),
+            (refused, 64, b"! 9 Q 65535\n"),
+            (Line::Records(10), 64, b". 10\n"),
+            (Line::Records(10), 3, b". 1"),
+        ];
+        for (line, room, want) in &cases {
+            shows(&rt, rt.alloc(), *line, *room, want)?;
+        }
+        Ok(())
     }
 }

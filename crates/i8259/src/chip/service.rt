@@ -2,22 +2,22 @@
 ghost use Rattle.std.specs.Prelude.{◌≡◌};
 ghost use Rattle.rules.specs.I8259 as rules;
 ghost use Rattle.i8259.specs.Priority.{Requesting};
-ghost use Rattle.i8259.specs.Views.{view, standing};
+ghost use Rattle.i8259.specs.Views.{standing};
 
-use super::{Chip, LAST_INPUT, Stage};
-use crate::bits::{clear_bit, set_bit};
-use crate::priority::{first, rank};
+use super::{Chip, LAST_INPUT, Selection, Stage};
+use crate::bit::Input;
+use crate::priority::{first_after, rank};
 
 impl Chip {
     pub fn power_on() -> Chip
-        ensures { view result ≡ rules.power_on_chip }
+        ensures { result ≡ rules.power_on_chip }
     {
         Chip::with_inputs(0)
     }
 
     // A chip at power on whose inputs already stand at their levels.
     pub fn with_inputs(levels: u8) -> Chip
-        ensures { view result ≡ standing levels }
+        ensures { result ≡ standing levels }
     {
         Chip {
             inputs: levels,
@@ -26,14 +26,14 @@ impl Chip {
             imr: 0,
             base: 0,
             lowest: LAST_INPUT,
-            read_isr: false,
+            selection: Selection::Irr,
             stage: Stage::Idle,
         }
     }
 
     // Gives all inputs their levels: a rise sets the input's IRR bit, a fall clears it.
     pub fn drive_all(&mut self, levels: u8)
-        ensures { view self.new ≡ rules.drive_below 8 (rules.bit levels) (view self.old) }
+        ensures { self.new ≡ rules.drive_below 8 (rules.bit levels) self.old }
     {
         let rises = levels & !self.inputs;
         let falls = self.inputs & !levels;
@@ -42,47 +42,38 @@ impl Chip {
     }
 
     // The requesting input: an unmasked request that comes before everything in service.
-    pub fn request(&self) -> Option<u8>
-        ensures asked { result ≡ rules.request (view self.now) }
-        ensures law { Requesting (view self.now) result }
+    pub fn request(&self) -> Option<Input>
+        ensures asked { result ≡ rules.request self.now }
+        ensures law { Requesting self.now result }
     {
-        let Stage::Ready = self.stage else {
+        if self.stage != Stage::Ready {
             return None;
-        };
-        let Some(i) = first(self.lowest, self.irr & !self.imr) else {
-            return None;
-        };
-        let Some(served) = first(self.lowest, self.isr) else {
-            return Some(i);
-        };
-        if rank(self.lowest, i) < rank(self.lowest, served) {
-            Some(i)
-        } else {
-            None
         }
+        let asking = first_after(self.lowest, self.irr & !self.imr)?;
+        let place = rank(self.lowest, asking);
+        let serving = first_after(self.lowest, self.isr);
+        let comes_first = serving.is_none_or(|served| place < rank(self.lowest, served));
+        comes_first.then_some(asking)
     }
 
     pub fn requests(&self) -> bool
-        ensures { result ≡ rules.requests (view self.now) }
+        ensures { result ≡ rules.requests self.now }
     {
-        match self.request() {
-            Some(_) => true,
-            None => false,
-        }
+        self.request().is_some()
     }
 
     // Answers with a vector. The requesting input moves from the IRR to the ISR; where none requests, nothing changes.
     pub fn acknowledge(&mut self) -> u8
-        ensures vector { result ≡ rules.chip_vector (view self.old) }
-        ensures served { view self.new ≡ rules.chip_acknowledged (view self.old) }
+        ensures vector { result ≡ rules.chip_vector self.old }
+        ensures served { self.new ≡ rules.chip_acknowledged self.old }
     {
         match self.request() {
             Some(i) => {
-                self.irr = clear_bit(self.irr, i);
-                self.isr = set_bit(self.isr, i);
-                self.base + i
+                self.irr = i.clear(self.irr);
+                self.isr = i.set(self.isr);
+                self.base + u8::from(i)
             }
-            None => self.base + LAST_INPUT,
+            None => self.base + u8::from(LAST_INPUT),
         }
     }
 }

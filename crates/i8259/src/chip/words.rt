@@ -1,58 +1,71 @@
 // What a chip does with the words of its two ports: the initialisation words ICW1 to ICW4, the mask, OCW2 and OCW3.
-ghost use Rattle.std.specs.Prelude.{◌≡◌, ◌<◌, IfSome, Some, None};
+ghost use Rattle.std.specs.Prelude.{◌≡◌, Some, None};
 ghost use Rattle.rules.specs.I8259 as rules;
-ghost use Rattle.i8259.specs.Views.{view, stage_of, offset, access_of};
+ghost use Rattle.i8259.specs.ChipView.{stage_of};
+ghost use Rattle.i8259.specs.Views.{offset, access_of, command_of};
 
-use super::{Access, Chip, LAST_INPUT, Offset, Stage};
-use crate::bits::{clear_bit, has_bit};
-use crate::priority::{INPUTS, first};
+use super::{Access, Chip, LAST_INPUT, Offset, Selection, Stage};
+use crate::bit::{BITS, Bit, Input};
+use crate::priority::first_after;
 
 // Set in a byte at offset 0 that is ICW1.
-const ICW1_BIT: u8 = 4;
+const ICW1_BIT: Bit = Bit { number: 4 };
 
 // Set in OCW3, and not in OCW2.
-const OCW3_BIT: u8 = 3;
+const OCW3_BIT: Bit = Bit { number: 3 };
 
 // Set in ICW1 if ICW3 is left out.
-const SINGLE_BIT: u8 = 1;
+const SINGLE_BIT: Bit = Bit { number: 1 };
 
 // Set in ICW1 if ICW4 comes.
-const ICW4_BIT: u8 = 0;
+const ICW4_BIT: Bit = Bit { number: 0 };
 
 // Set in OCW3 if it selects the register that offset 0 reads.
-const SELECT_BIT: u8 = 1;
+const SELECT_BIT: Bit = Bit { number: 1 };
 
 // Set in OCW3 if that register is the ISR.
-const ISR_BIT: u8 = 0;
+const ISR_BIT: Bit = Bit { number: 0 };
 
-// OCW2 has its code from this bit on. The codes that have no name here have no effect.
+// OCW2 has its code from this bit on, and its level in the three lowest bits.
 const CODE_SHIFT: u8 = 5;
 
-const NON_SPECIFIC_END: u8 = 1;
+// What OCW2 commands, with the level where the code has one.
+#[derive(Clone, Copy)]
+enum Command {
+    // the codes 0, 2 and 4, which have no effect
+    NoOperation,
+    NonSpecificEnd,
+    SpecificEnd(Input),
+    RotateOnNonSpecificEnd,
+    SetPriority(Input),
+    RotateOnSpecificEnd(Input),
+}
 
-const SPECIFIC_END: u8 = 3;
+impl From<u8> for Command {
+    ghost from_gives = { λ word command. command ≡ command_of word };
 
-const ROTATE_ON_NON_SPECIFIC_END: u8 = 5;
+    fn from(word: u8) -> Command {
+        let level = Input::wrapping(word);
+        match word >> CODE_SHIFT {
+            1 => Command::NonSpecificEnd,
+            3 => Command::SpecificEnd(level),
+            5 => Command::RotateOnNonSpecificEnd,
+            6 => Command::SetPriority(level),
+            7 => Command::RotateOnSpecificEnd(level),
+            _ => Command::NoOperation,
+        }
+    }
+}
 
-const SET_PRIORITY: u8 = 6;
+impl From<(Offset, u8)> for Access {
+    ghost from_gives = { λ written access. access ≡ access_of written.0 written.1 };
 
-const ROTATE_ON_SPECIFIC_END: u8 = 7;
-
-impl Access {
-    fn of(at: Offset, byte: u8) -> Access
-        ensures { result ≡ access_of at byte }
-    {
+    fn from((at, byte): (Offset, u8)) -> Access {
         match at {
+            Offset::Zero if ICW1_BIT.is_set(byte) => Access::Icw1,
+            Offset::Zero if OCW3_BIT.is_set(byte) => Access::Ocw3,
+            Offset::Zero => Access::Ocw2,
             Offset::One => Access::OffsetOne,
-            Offset::Zero => {
-                if has_bit(byte, ICW1_BIT) {
-                    Access::Icw1
-                } else if has_bit(byte, OCW3_BIT) {
-                    Access::Ocw3
-                } else {
-                    Access::Ocw2
-                }
-            }
         }
     }
 }
@@ -82,24 +95,27 @@ impl Stage {
 
 impl Chip {
     pub fn read(&self, at: Offset) -> u8
-        ensures { result ≡ rules.read_chip (offset at) (view self.now) }
+        ensures { result ≡ rules.read_chip (offset at) self.now }
     {
         match at {
-            Offset::Zero => { if self.read_isr { self.isr } else { self.irr } }
+            Offset::Zero => match self.selection {
+                Selection::Irr => self.irr,
+                Selection::Isr => self.isr,
+            },
             Offset::One => self.imr,
         }
     }
 
     // ICW1 restarts the initialisation from any stage, and OCW2 and OCW3 act at any stage.
     pub fn write(&mut self, at: Offset, byte: u8)
-        ensures { view self.new ≡ rules.write_chip (offset at) byte (view self.old) }
+        ensures { self.new ≡ rules.write_chip (offset at) byte self.old }
     {
-        match (self.stage, Access::of(at, byte)) {
+        match (self.stage, Access::from((at, byte))) {
             (_, Access::Icw1) => self.icw1(byte),
             (_, Access::Ocw2) => self.ocw2(byte),
             (_, Access::Ocw3) => self.ocw3(byte),
             (Stage::WaitIcw2 { single, needs_icw4 }, Access::OffsetOne) => {
-                self.base = byte - byte % INPUTS;
+                self.base = byte - byte % BITS;
                 self.stage = Stage::after_icw2(single, needs_icw4);
             }
             (Stage::WaitIcw3 { needs_icw4 }, Access::OffsetOne) => {
@@ -111,73 +127,71 @@ impl Chip {
     }
 
     fn icw1(&mut self, word: u8)
-        ensures { view self.new ≡ rules.icw1 word (view self.old) }
+        ensures { self.new ≡ rules.icw1 word self.old }
     {
-        let single = has_bit(word, SINGLE_BIT);
-        let needs_icw4 = has_bit(word, ICW4_BIT);
+        let single = SINGLE_BIT.is_set(word);
+        let needs_icw4 = ICW4_BIT.is_set(word);
         self.irr = 0;
         self.isr = 0;
         self.imr = 0;
         self.lowest = LAST_INPUT;
-        self.read_isr = false;
+        self.selection = Selection::Irr;
         self.stage = Stage::WaitIcw2 { single, needs_icw4 };
     }
 
     fn ocw2(&mut self, word: u8)
-        ensures { view self.new ≡ rules.ocw2 word (view self.old) }
+        ensures { self.new ≡ rules.ocw2 word self.old }
     {
-        let level = word % INPUTS;
-        match word >> CODE_SHIFT {
-            NON_SPECIFIC_END => {
+        match Command::from(word) {
+            Command::NoOperation => {}
+            Command::NonSpecificEnd => {
                 let _ = self.end_first();
             }
-            SPECIFIC_END => self.end_of(level),
-            ROTATE_ON_NON_SPECIFIC_END => {
+            Command::SpecificEnd(level) => self.end_of(level),
+            Command::RotateOnNonSpecificEnd => {
                 if let Some(i) = self.end_first() {
                     self.make_lowest(i);
                 }
             }
-            SET_PRIORITY => self.make_lowest(level),
-            ROTATE_ON_SPECIFIC_END => {
+            Command::SetPriority(level) => self.make_lowest(level),
+            Command::RotateOnSpecificEnd(level) => {
                 self.end_of(level);
                 self.make_lowest(level);
             }
-            _ => {}
         }
     }
 
     // Ends the input that comes first in service, if there is one, and says which that was.
-    fn end_first(&mut self) -> Option<u8>
-        ensures found { result ≡ rules.first (view self.old).lowest (view self.old).isr }
-        ensures input { IfSome result (λ i. i < 8) }
-        ensures ended { view self.new ≡ elim result [ Some i ↦ rules.end_of i (view self.old) | None ↦ view self.old ] }
+    fn end_first(&mut self) -> Option<Input>
+        ensures found { result ≡ rules.first self.old.lowest self.old.isr }
+        ensures ended { self.new ≡ elim result [ Some i ↦ rules.end_of i self.old | None ↦ self.old ] }
     {
-        let ended = first(self.lowest, self.isr);
-        if let Some(i) = ended {
-            self.end_of(i);
-        }
-        ended
+        let ended = first_after(self.lowest, self.isr)?;
+        self.end_of(ended);
+        Some(ended)
     }
 
-    fn end_of(&mut self, i: u8)
-        requires { i < 8 }
-        ensures { view self.new ≡ rules.end_of i (view self.old) }
+    fn end_of(&mut self, i: Input)
+        ensures { self.new ≡ rules.end_of i self.old }
     {
-        self.isr = clear_bit(self.isr, i);
+        self.isr = i.clear(self.isr);
     }
 
-    fn make_lowest(&mut self, i: u8)
-        requires { i < 8 }
-        ensures { view self.new ≡ rules.make_lowest i (view self.old) }
+    fn make_lowest(&mut self, i: Input)
+        ensures { self.new ≡ rules.make_lowest i self.old }
     {
         self.lowest = i;
     }
 
     fn ocw3(&mut self, word: u8)
-        ensures { view self.new ≡ rules.ocw3 word (view self.old) }
+        ensures { self.new ≡ rules.ocw3 word self.old }
     {
-        if has_bit(word, SELECT_BIT) {
-            self.read_isr = has_bit(word, ISR_BIT);
+        if SELECT_BIT.is_set(word) {
+            self.selection = if ISR_BIT.is_set(word) {
+                Selection::Isr
+            } else {
+                Selection::Irr
+            };
         }
     }
 }

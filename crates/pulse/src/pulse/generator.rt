@@ -1,43 +1,31 @@
 // The pulse generator as a device. A skip jumps over whole counts, and means the same as single ticks.
-ghost use Rattle.std.specs.Prelude.{◌≡◌, ◌≤◌};
-ghost use Rattle.pulse.specs.Pulse.{Counting, pulse_generator, power_on, reload_set, flips, FlipsEveryReload};
-ghost use Rattle.pulse.specs.State.{state_of};
+ghost use Rattle.std.specs.Prelude.{◌≡◌, ◌≤◌, refl};
+ghost use Rattle.pulse.specs.Pulse.{Counting, pulse_generator, power_on, reload_set, FlipsEveryReload};
 ghost use Rattle.pulse.specs.Ports.{pulse_lawful};
 
 use crate::pulse::Pulse;
-use device::{Device, HORIZON};
-
-// A reload value with all sixteen bits 0.
-const WHOLE: u64 = 1 << 16;
-
-// The reload value that sixteen bits stand for.
-fn reload_from(bits: u64) -> u64
-    requires { bits ≤ 65535 }
-    ensures value { result ≡ reload_set bits }
-    ensures low { 1 ≤ result }
-    ensures high { result ≤ 65536 }
-{
-    if bits == 0 { WHOLE } else { bits }
-}
-
-// The level after it has flipped so many times.
-fn flipped(times: u64, high: bool) -> bool
-    ensures { result ≡ flips times high }
-{
-    if times % 2 == 0 { high } else { !high }
-}
+use device::{Device, HORIZON, MODULUS, NO_BYTE, bits_of, flipped, ticks_of};
 
 impl Pulse {
     // As at power-on: not running, low, and both values at 65,536.
     pub fn new() -> Self
-        ensures { state_of result ≡ power_on }
+        ensures { result ≡ power_on }
     {
         Pulse {
-            reload: WHOLE,
-            count: WHOLE,
+            reload: MODULUS,
+            count: MODULUS,
             running: false,
             high: false,
         }
+    }
+
+    // The reload value and the count.
+    pub fn counts(&self) -> (u64, u64)
+        ensures reload { result.0 ≡ self.now.reload }
+        ensures count { result.1 ≡ self.now.count }
+        ensures within { (1 ≤ result.0) × (result.0 ≤ 65536) × (1 ≤ result.1) × (result.1 ≤ 65536) }
+    {
+        (self.reload, self.count)
     }
 }
 
@@ -49,15 +37,13 @@ pub fn flips_every_reload()
 impl Device for Pulse {
     const WIDTH: u16 = 4;
 
+    ghost WIDTH = { 4 };
+
     ghost State = { Counting };
 
     ghost meaning = { pulse_generator };
 
-    ghost state = { state_of };
-
-    fn ports() -> u16 {
-        Self::WIDTH
-    }
+    ghost state = { λ p. p };
 
     // The present count runs down, then whole counts pass by division, and the rest is taken from a last one.
     fn skip(&mut self, n: u64) {
@@ -69,11 +55,12 @@ impl Device for Pulse {
             self.count -= n;
         } else {
             let past = n - self.count;
-            self.high = flipped(past / self.reload + 1, self.high);
+            self.high = flipped(self.high, past / self.reload + 1);
             self.count = self.reload - past % self.reload;
         }
     }
 
+    // By cases, since the proof needs them anyway.
     fn announce(&self) -> Option<u64> {
         if self.running { Some(self.count) } else { None }
     }
@@ -82,24 +69,32 @@ impl Device for Pulse {
         self.high
     }
 
+    // Offsets stay numbers here and below, since any of them is answered.
     fn read(&mut self, offset: u16) -> u8 {
         match offset {
-            0 => (self.count % 256) as u8,
-            1 => (self.count % WHOLE / 256) as u8,
-            2 => self.running as u8 + 2 * (self.high as u8),
+            0 => bits_of(self.count).to_le_bytes()[0],
+            1 => bits_of(self.count).to_le_bytes()[1],
+            2 => u8::from(self.running) + 2 * u8::from(self.high),
             3 => {
+                // The read puts the level to 0, which a swap would hide.
                 let high = self.high;
                 self.high = false;
-                high as u8
+                u8::from(high)
             }
-            _ => 0xFF,
+            _ => NO_BYTE,
         }
     }
 
     fn write(&mut self, offset: u16, byte: u8) {
         match offset {
-            0 => self.reload = reload_from(self.reload / 256 % 256 * 256 + byte as u64),
-            1 => self.reload = reload_from(byte as u64 * 256 + self.reload % 256),
+            0 => {
+                let [_, high] = bits_of(self.reload).to_le_bytes();
+                self.reload = ticks_of(u16::from_le_bytes([byte, high]));
+            }
+            1 => {
+                let [low, _] = bits_of(self.reload).to_le_bytes();
+                self.reload = ticks_of(u16::from_le_bytes([low, byte]));
+            }
             2 => {
                 self.running = byte % 2 == 1;
                 self.high = byte / 2 % 2 == 1;
@@ -108,6 +103,8 @@ impl Device for Pulse {
             _ => {}
         }
     }
+
+    ghost width_meant = { refl };
 
     ghost lawful = { pulse_lawful };
 }

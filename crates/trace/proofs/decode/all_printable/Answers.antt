@@ -1,22 +1,9 @@
-use Rattle.std.proofs.Common.{◌+◌, Bool, ◌&&◌, drop, sym, ap, ◌∙◌}
-use Rattle.rules.specs.Trace.{all_printable}
-use Rattle.std.proofs.lemmas.List.{at_drop_more, at_drop_all}
+use Rattle.std.proofs.Common.{◌∙◌, rules, tests}
+use Rattle.std.proofs.lemmas.Iterator.{YieldsList-from_slice}
+use Rattle.std.proofs.lemmas.Iterator.Search.{all_from_yields_List}
+use Rattle.rules.specs.Trace.{printable}
+use Rattle.trace.proofs.Decoding.{list_all_printable}
 use Rattle.trace.proofs.decode.all_printable.Goals as goal
 
-pub returns-then-not-is_printable : goal.returns-then-not-is_printable
-unfolding all_printable
-returns-then-not-is_printable c =
-    ap (λ (b : Bool). b && all_printable (drop (c.loop-byte.byte-index + 1) c.args.text.now)) c.if-not-is_printable.ensures
-    ∙ sym (at_drop_more all_printable c.args.text.now c.loop-byte.byte-index 0 c.loop-byte-test.true)
-    ∙ c.loop-byte.invariant
-
-pub loop-byte-preserved : goal.loop-byte-preserved
-unfolding all_printable
-loop-byte-preserved c =
-    ap (λ (b : Bool). b && all_printable (drop (c.loop-byte.byte-index + 1) c.args.text.now)) c.if-not-is_printable.ensures
-    ∙ sym (at_drop_more all_printable c.args.text.now c.loop-byte.byte-index 0 c.loop-byte-test.true)
-    ∙ c.loop-byte.invariant
-
 pub returns : goal.returns
-unfolding all_printable
-returns c = sym (at_drop_all all_printable c.args.text.now c.loop-byte.byte-index c.loop-byte-test.false) ∙ c.loop-byte.invariant
+returns c = all_from_yields_List printable _ _ _ c.all.ensures.ran (YieldsList-from_slice c.args.text.now cc) (λ x b q k. search (rules, tests)) ∙ list_all_printable c.args.text.now

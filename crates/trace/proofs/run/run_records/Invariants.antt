@@ -5,9 +5,9 @@ use Rattle.trace.specs.Reading.{whole, left}
 use Rattle.trace.proofs.Running.{SoFar}
 use Rattle.trace.proofs.run.run_records.Given as goal
 
-abbrev pub invariant-loop-output : goal.invariant-loop-output
-invariant-loop-output g l =
+abbrev pub invariant-loop-reader : goal.invariant-loop-reader
+invariant-loop-reader g l =
     SoFar g.M.Machine.performs l.initial.output (run_from g.M.Machine.performs (length (left l.initial.reader)) (room_of l.initial.output) l.initial.reader.place 0 (g.M.Machine.state l.initial.machine) (left l.initial.reader)) l.output l.reader l.count (g.M.Machine.state l.machine)
 
-abbrev pub decreases-loop-output : goal.decreases-loop-output
-decreases-loop-output g l = length (whole l.reader) - l.reader.place
+abbrev pub decreases-loop-reader : goal.decreases-loop-reader
+decreases-loop-reader g l = length (whole l.reader) - l.reader.place

@@ -1,14 +1,16 @@
-use Rattle.std.proofs.Common.{◌≡◌, ℕ, min, sym}
-use Rattle.rules.specs.Device.{ticks, horizon}
-use Rattle.rules.specs.I8254.{Timer, Channel, timer}
-use Rattle.i8254_laws.specs.Machines.{channel}
-use Rattle.i8254_laws.specs.Runs.{ticks_timer}
-use Rattle.i8254.specs.Views.{view, view_channel}
+use Rattle.std.proofs.Common.{◌≡◌, min, rules}
+use Rattle.rules.specs.Device.{horizon}
+use Rattle.i8254.proofs.Channels.{skipped_more, skipped_all}
 use Rattle.i8254.proofs.timer.TimerDevice.skip.Goals as goal
 
-side_by_side : (t : Timer) (n m : ℕ) (a b d : Channel) → n ≡ m → a ≡ ticks channel n t.channel_0 → b ≡ ticks channel n t.channel_1 → d ≡ ticks channel n t.channel_2 → record { channel_0 = a; channel_1 = b; channel_2 = d } ≡ ticks timer m t
-side_by_side t n m a b d same first second third = rw (first, second, third, same) (sym (ticks_timer m t))
+pub loop-channel-preserved : goal.loop-channel-preserved
+loop-channel-preserved c =
+    let loop = c.loop-channel in
+    skipped_more c.min-ticks.result loop.channel-index c.args.self.now.channels loop.channel-items _ _ (search rules) loop.invariant c.skip.ensures
 
 pub returns : goal.returns
 returns c =
-    side_by_side (view c.args.self.now) c.min-n.result (min c.args.n horizon) (view_channel c.skip.new.self) (view_channel c.skip-2.new.self) (view_channel c.skip-3.new.self) c.min-n.ensures c.skip.ensures c.skip-2.ensures c.skip-3.ensures
+    let loop = c.loop-channel in
+    let three : loop.channel-index ≡ 3 = search rules in
+    let all : c.min-ticks.result ≡ min c.args.n horizon = c.min-ticks.ensures in
+    rw (← all) (skipped_all c.min-ticks.result c.args.self.now.channels loop.channel-items (rw three at loop.invariant))

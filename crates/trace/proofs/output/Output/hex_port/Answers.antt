@@ -1,5 +1,5 @@
-use Rattle.trace.proofs.Printing.{printed_then, printed_byte}
+use Rattle.trace.proofs.Printing.{printed_then, printed_as, port_bytes}
 use Rattle.trace.proofs.output.Output.hex_port.Goals as goal
 
 pub returns : goal.returns
-returns c = printed_then (printed_byte c.hex_digit.ensures c.byte.ensures) (printed_then (printed_byte c.hex_digit-2.ensures c.byte-2.ensures) (printed_then (printed_byte c.hex_digit-3.ensures c.byte-3.ensures) (printed_byte c.hex_digit-4.ensures c.byte-4.ensures)))
+returns c = printed_as (port_bytes c.args.port c.to_be_bytes.ensures) (printed_then c.hex_byte.ensures c.hex_byte-2.ensures)

@@ -1,11 +1,10 @@
 use Rattle.rules.specs.TickLaws.{still_announces}
 use Rattle.pulse.specs.Pulse.{pulse_generator}
-use Rattle.pulse.specs.State.{state_of}
 use Rattle.pulse.proofs.PulseLaws.{still, pulse_announces}
 use Rattle.pulse.proofs.pulse.generator.PulseDevice.announce.Goals as goal
 
 pub returns-then-self : goal.returns-then-self
-returns-then-self c = pulse_announces (state_of c.args.self.now) c.if-self.true c.args.self.now.bounded.2 c.args.self.now.bounded.3
+returns-then-self c = rw (← c.self.view_is) (pulse_announces _ c.if-self.true c.self.invariant.2 c.self.invariant.3)
 
 pub returns-else-self : goal.returns-else-self
-returns-else-self c = still_announces pulse_generator (state_of c.args.self.now) (still _ c.if-self.false)
+returns-else-self c = rw (← c.self.view_is) (still_announces pulse_generator _ (still _ c.if-self.false))

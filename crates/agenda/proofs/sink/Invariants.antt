@@ -1,9 +1,0 @@
-use Rattle.std.proofs.Common.{◌-◌}
-use Rattle.agenda.proofs.Sifts.{Sinking}
-use Rattle.agenda.proofs.sink.Given as goal
-
-abbrev pub invariant-loop-at : goal.invariant-loop-at
-invariant-loop-at g l = Sinking g.E.Entry.before l.sinking l.len l.initial.nodes l.nodes l.at
-
-abbrev pub decreases-loop-at : goal.decreases-loop-at
-decreases-loop-at g l = l.len - l.at
