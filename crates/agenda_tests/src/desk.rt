@@ -14,7 +14,10 @@ pub struct Desk<'a> {
 }
 
 impl<'a> Desk<'a> {
-    pub fn new(nodes: &'a mut [Deadline]) -> Desk<'a> {
+    pub fn new(nodes: &'a mut [Deadline]) -> Desk<'a>
+        ensures lent { result.queue.nodes ≡ nodes.entry }
+        ensures empty { waiting deadline_before result.queue ≡ [] }
+    {
         Desk {
             queue: Agenda::new(nodes),
         }
