@@ -23,6 +23,13 @@ impl<'a, F: Slots> Board<'a, F> {
         }
     }
 
+    // How many ticks have passed.
+    pub fn time(&self) -> u64
+        ensures { result ≡ (view F.states self.now).time }
+    {
+        self.time
+    }
+
     pub fn read(&mut self, port: u16) -> u8
         ensures { Does F.states F.fitting (rules.Call.read port) self.old (rules.Answer.byte_given result) self.new }
     {
