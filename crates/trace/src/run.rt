@@ -46,7 +46,7 @@ fn run_records<M: Machine>(
     mut reader: Reader<'_>,
     output: &mut Output<'_>,
 ) -> Result<usize, Refused>
-    ensures { RunsTo output.old (rules.run_from M.Machine.performs (length (left reader.entry)) (room_of output.old) reader.entry.place 0 (M.Machine.state machine.old) (left reader.entry)) result output.new }
+    ensures { RunsTo output.old (rules.run_from M.Machine.performs (length (left reader.entry)) (room_of output.old) reader.entry.place 0 (M.Machine.state machine.old) (left reader.entry)) result output.new (M.Machine.state machine.new) }
 {
     let mut count = 0;
     while !reader.at_end() {
@@ -71,10 +71,11 @@ fn run_records<M: Machine>(
 }
 
 // Runs a trace on a machine, and prints its lines into `out`, as far as there is room. The answer is how many bytes
-// were printed; what lies behind them is not touched.
+// were printed; what lies behind them is not touched. The machine is left as the records that were carried out leave it.
 pub fn run_trace<M: Machine>(machine: &mut M, trace: &[u8], out: &mut [u8]) -> usize
     ensures count { result ≡ length (take (length out.old) (rules.run_lines M.Machine.performs (length out.old) (M.Machine.state machine.old) trace.now)) }
     ensures lines { out.new ≡ take (length out.old) (rules.run_lines M.Machine.performs (length out.old) (M.Machine.state machine.old) trace.now) ++ drop result out.old }
+    ensures machine { M.Machine.state machine.new ≡ rules.run_board M.Machine.performs (length out.old) (M.Machine.state machine.old) trace.now }
 {
     let mut output = Output::new(out);
     let run = match Reader::new(trace) {
