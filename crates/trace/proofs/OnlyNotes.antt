@@ -5,12 +5,12 @@ use Rattle.std.specs.Option.{MatchOption}
 use Rattle.std.specs.Result.{result_ok}
 use Rattle.rules.specs.Trace.{Record, advance, read, write, acknowledge, queue, note, Performed, Next, at_end, fault, got, next, Outcome, run_from, run_lines, note_line, on_board, standard, standard_board, printed}
 use Rattle.rules.specs.declared.refusal.Refusal.{Refusal}
-use Rattle.trace.specs.declared.reader.Reader.{Reader}
+use Rattle.records.specs.declared.reader.Reader.{Reader}
 use Rattle.trace.specs.Notes.{is_note, notes_from, only_notes, bare}
 use Rattle.trace.specs.Performing.{performed}
-use Rattle.trace.specs.declared.record.Record as code
-use Rattle.trace.specs.Reading.{whole, left, well_started, GivesNext}
-use Rattle.trace.specs.Records.{meant}
+use Rattle.records.specs.declared.record.Record as code
+use Rattle.records.specs.Reading.{whole, left, well_started, GivesNext}
+use Rattle.records.specs.Records.{meant}
 use Rattle.trace.proofs.Running.{turn, next_nil, moves_on, run_refused, run_started}
 
 abbrev checked : List ℕ → Bool → Bool

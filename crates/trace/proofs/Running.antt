@@ -1,5 +1,5 @@
 -- A run, record by record.
-use Rattle.std.proofs.Common.{◌≡◌, ℕ, zero, suc, ◌+◌, ◌-◌, ◌<◌, ◌≤◌, Bool, true, false, ltb, List, [], ◌∷◌, ◌++◌, length, take, drop, Ok, Err, Some, Result, sym, refl, ap, ◌∙◌, subst, ap₂, inl, inr, append_assoc, arith, length-drop, length-take}
+use Rattle.std.proofs.Common.{◌≡◌, ℕ, zero, suc, ◌+◌, ◌-◌, ◌<◌, ◌≤◌, Bool, true, false, ltb, List, [], ◌∷◌, ◌++◌, length, take, drop, Ok, Err, None, Some, Result, sym, refl, ap, ◌∙◌, subst, ap₂, inl, inr, append_assoc, arith, length-drop, length-take}
 use Rattle.std.proofs.lemmas.List.{drop_all}
 use Rattle.std.proofs.lemmas.Bool.{lt-ltb, le-ltb, cases_lt, false≢true}
 use Rattle.std.proofs.lemmas.Result.{err_from_is_err_and}
@@ -7,17 +7,17 @@ use Rattle.std.specs.Result.{MatchResult, IsErrAnd}
 use Rattle.rules.specs.Trace.{Record, Performed, Next, at_end, fault, got, next, Outcome, ended, run_from, run, refusal_line, count_line}
 use Rattle.rules.specs.declared.refusal.Refusal.{Refusal}
 use Rattle.rules.specs.declared.refusal.Refusal.TheVariants.{NotATrace, OutputFull}
-use Rattle.trace.specs.declared.output.Output.{Output}
-use Rattle.trace.specs.declared.reader.Reader.{Reader}
+use Rattle.lines.specs.declared.output.Output.{Output}
+use Rattle.records.specs.declared.reader.Reader.{Reader}
 use Rattle.trace.specs.Performing.{performed}
-use Rattle.trace.specs.Printing.{Printed, bytes_of, room_of, with_line}
-use Rattle.trace.specs.declared.output.Refused.{Refused}
-use Rattle.trace.specs.declared.record.Record as code
-use Rattle.trace.specs.Reading.{whole, left, moved, well_started, GivesNext}
-use Rattle.trace.specs.Records.{meant}
+use Rattle.lines.specs.Printing.{Printed, bytes_of, room_of, with_line}
+use Rattle.lines.specs.declared.output.Refused.{Refused}
+use Rattle.records.specs.declared.record.Record as code
+use Rattle.records.specs.Reading.{whole, left, said, moved, well_started, GivesNext}
+use Rattle.records.specs.Records.{meant}
 use Rattle.trace.specs.Running.{last_line, RunsTo}
-use Rattle.trace.proofs.Reading.{next_end}
-use Rattle.trace.proofs.Printing.{printed_then, printed_none, printed_as, printed_to, length_with_line, place_after_is}
+use Rattle.records.proofs.Reading.{next_end, nothing_left}
+use Rattle.lines.proofs.Printing.{printed_then, printed_none, printed_as, printed_to, length_with_line, place_after_is}
 
 ap₃ : {A B C D : Type 0} (f : A → B → C → D) {a a' : A} {b b' : B} {c c' : C} → a ≡ a' → b ≡ b' → c ≡ c' → f a b c ≡ f a' b' c'
 ap₃ f {a} {a'} {b} {b'} {c} {c'} p q r = ap₂ (λ x y. f x y c) p q ∙ ap (λ z. f a' b' z) r
@@ -26,22 +26,26 @@ pub next_nil : next [] ≡ at_end
 unfolding next
 next_nil = refl
 
+-- a record, and also a fault, stands within the trace
+pub stands_within : {r r' : Reader} (a : Result code.Record Refusal) → GivesNext r (Some a) r' → r.place < length (whole r)
+stands_within {r} a g =
+    elim (cases_lt r.place (length (whole r))) [
+      | inl h ↦ h
+      | inr h ↦ absurd (no_end a _ _ _ g.next (next_end (whole r) r.place h))
+    ]
+  where
+    no_end : (b : Result code.Record Refusal) (len : ℕ) (rest ys : List ℕ) → said (Some b) len rest ≡ next ys → next ys ≡ at_end → ⊥
+    no_end (Ok x) len rest ys n e = (let z : ◌≡◌ {A = ℕ} 0 1 = cc in omega arith)
+    no_end (Err f) len rest ys n e = (let z : ◌≡◌ {A = ℕ} 0 1 = cc in omega arith)
+
 module _ {r r' : Reader} {x : code.Record} (g : GivesNext r (Some (Ok x)) r') where
   -- a record moves the place
   pub moves_on : r'.place ≡ r.place + 2 + (r'.place - r.place - 2)
   moves_on = g.place ∙ ap (λ (k : Next). moved k r.place) (sym g.next)
 
-  -- and stands within the trace
-  within : r.place < length (whole r)
-  within =
-      elim (cases_lt r.place (length (whole r))) [
-        | inl h ↦ h
-        | inr h ↦ (let e : next (left r) ≡ at_end = next_end (whole r) r.place h in let n = g.next in let z : ◌≡◌ {A = ℕ} 0 1 = cc in absurd (omega arith))
-      ]
-
   -- so that less is left
   pub less_left : length (whole r') - r'.place < length (whole r) - r.place
-  less_left = omega (arith, moves_on, within, ap length g.same)
+  less_left = omega (arith, moves_on, stands_within (Ok x) g, ap length g.same)
 
 room_after : (o o' : Output) (line : List ℕ) → Printed o line o' → room_of o' ≡ room_of o - length line
 room_after o o' line p = omega (arith, ap length p.bytes, length_with_line (bytes_of o) o.place line, p.place, place_after_is (bytes_of o) o.place line)
@@ -132,11 +136,11 @@ module _ {S : Type 0} (perform : Record → ℕ → S → Performed S) where
     left_some : r.place < length (whole r) → 0 < length (left r)
     left_some l = omega (arith, length-drop r.place (whole r))
 
-    pub at_full : {place : ℕ} → place ≡ r.place → r.place < length (whole r) → room_of o < 100 → RunsTo o₀ all (Err (record { refusal = OutputFull; place = place })) o s
-    at_full {place} at more short = ends (run_full (room_of o) r.place count s h.fuel (left r) h.enough (left_some more) short ∙ ap (λ (n : ℕ). ended (refusal_line OutputFull n) s) (sym at))
+    pub at_full : {r' : Reader} {place : ℕ} (a : Result code.Record Refusal) → place ≡ r.place → room_of o < 100 → GivesNext r (Some a) r' → RunsTo o₀ all (Err (record { refusal = OutputFull; place = place })) o s
+    at_full a at short g = ends (run_full (room_of o) r.place count s h.fuel (left r) h.enough (left_some (stands_within a g)) short ∙ ap (λ (n : ℕ). ended (refusal_line OutputFull n) s) (sym at))
 
-    pub at_last : length (whole r) ≤ r.place → RunsTo o₀ all (Ok count) o s
-    at_last past = ends (run_end (room_of o) r.place count s h.fuel (left r) (omega (arith, length-drop r.place (whole r))))
+    pub at_last : {r' : Reader} → GivesNext r None r' → RunsTo o₀ all (Ok count) o s
+    at_last g = ends (run_end (room_of o) r.place count s h.fuel (left r) (nothing_left (left r) g.next))
 
     pub at_fault : {r' : Reader} {answer : Result ℕ Refused} {f : Refused} (place : ℕ) (a : Result code.Record Refusal) → place ≡ r.place → 100 ≤ room_of o → GivesNext r (Some a) r' → placed place a ≡ Err f → IsErrAnd answer (λ y. y ≡ f) → RunsTo o₀ all answer o s
     at_fault place (Ok x) at wide g e is = (let z : ◌≡◌ {A = ℕ} 0 1 = cc in absurd (omega arith))

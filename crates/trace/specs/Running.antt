@@ -1,9 +1,9 @@
 -- A run on the way, and its end.
 use Rattle.std.specs.Prelude.{◌≡◌, ℕ, List, ◌++◌, Ok, Err, Result}
 use Rattle.rules.specs.Trace.{Outcome, count_line, refusal_line}
-use Rattle.trace.specs.declared.output.Output.{Output}
-use Rattle.trace.specs.declared.output.Refused.{Refused}
-use Rattle.trace.specs.Printing.{Printed}
+use Rattle.lines.specs.declared.output.Output.{Output}
+use Rattle.lines.specs.declared.output.Refused.{Refused}
+use Rattle.lines.specs.Printing.{Printed}
 
 -- The last line: the count, or the refusal that ended the run.
 abbrev pub last_line : Result ℕ Refused → List ℕ

@@ -8,7 +8,7 @@ mod tests {
     use std::iter::repeat_n;
     use std::process::Abort;
     use std::test::Fail;
-    use trace::{Elapsed, LONGEST_TRACE, Line, Output, Reader, Record, Refused, run_notes};
+    use trace::{LONGEST_TRACE, Line, Output, Reader, Record, Refused, run_notes};
 
     // Three notes, one of them empty. Their length fields start at 1, 6 and 9.
     const NOTES: [u8; 13] = *b"\x01\x00\x03\x06ab\x00\x01\x06\x00\x02\x06c";
@@ -261,10 +261,10 @@ mod tests {
     // A line of each format.
     #[test]
     fn prints_lines(rt: HostRuntime) -> Result<(), Fail> {
-        let advanced = Line::Advanced(Elapsed {
+        let advanced = Line::Advanced {
             time: 281474976710656,
             edges: 0,
-        });
+        };
         let read = Line::Read {
             port: 0x03F8,
             byte: 0xAB,

@@ -1,8 +1,8 @@
 use Rattle.std.proofs.Common.{◌≡◌, ℕ, List, ◌++◌, length, take, drop, sym, refl, ap, ◌∙◌, rules}
 use Rattle.rules.specs.Trace.{Outcome, ended, run, refusal_line}
 use Rattle.rules.specs.declared.refusal.Refusal.{Refusal}
-use Rattle.trace.specs.declared.output.Output.{Output}
-use Rattle.trace.specs.Printing.{Printed, bytes_of, line_bytes}
+use Rattle.lines.specs.declared.output.Output.{Output}
+use Rattle.lines.specs.Printing.{Printed, bytes_of, line_bytes}
 use Rattle.trace.specs.Running.{RunsTo, last_line}
 use Rattle.trace.proofs.Running.{run_refused, started_as, refused_at_once, runs_as, whole_run, count_of, lines_of, joins}
 use Rattle.trace.proofs.run.run_trace.Goals as goal
