@@ -7,7 +7,7 @@ use Rattle.std.specs.Fmt.{digits}
 use Rattle.rules.specs.Ascending.{insert}
 use Rattle.rules.specs.I8259.{first_from, drive_below, inputs_below}
 use Rattle.rules.specs.Board.{on_line, edges_between, carry_out, tick, tick_times}
-use Rattle.rules.specs.Trace.{big_endian_from, all_printable, decode, next, run_from, run_lines, on_board, printed}
+use Rattle.rules.specs.Trace.{big_endian_from, all_printable, decode, next, run_from, run, on_board, printed}
 use Rattle.rules.specs.Examples.{WorkedExamples, out_after, programmed, by_twelve, high}
 
 -- a timer in mode 0 whose OUT has risen, with v in its counter
@@ -40,7 +40,7 @@ module _ {S : Type 0} (m : Meaning S) (s : S) where
   from_11 a = announces_divided m (by_twelve 11 s) (Some 1) (omega arith) a
 
 pub worked_examples : (S : Type 0) → WorkedExamples S
-unfolding ticks insert first_from drive_below inputs_below high on_line edges_between carry_out tick tick_times digits big_endian_from all_printable decode next run_from run_lines on_board printed
+unfolding ticks insert first_from drive_below inputs_below high on_line edges_between carry_out tick tick_times digits big_endian_from all_printable decode next run_from run on_board printed
 worked_examples S = record {
   mode_0_low = refl;
   mode_0_high = high_from_4;

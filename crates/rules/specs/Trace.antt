@@ -121,26 +121,36 @@ pub record Performed (B : Type 0) : Type 0 where
   pub line : List ℕ
   pub board : B
 
+-- What a run comes to: its lines, and what its records were carried out on, as it is left.
+pub record Outcome (B : Type 0) : Type 0 where
+  pub lines : List ℕ
+  pub board : B
+
+-- The end of a run: its last line.
+abbrev pub ended : {B : Type 0} → List ℕ → B → Outcome B
+ended last b = record { lines = last; board = b }
+
 -- Before each record that much output has to remain.
 abbrev pub room_needed : ℕ
 room_needed = 100
 
--- The lines from a place of the trace on: `bytes` are left of the trace, `room` of the output, and `count` records were read.
+-- The run from a place of the trace on: `bytes` are left of the trace, `room` of the output, and `count` records were read.
 -- The room is looked at before a record's own checks, and only where a byte is left. A fault of the trace ends the run with
 -- its line; at the end comes the count. `fuel` only bounds the recursion: a record takes at least two bytes.
-unfoldable pub run_from : {B : Type 0} → (Record → ℕ → B → Performed B) → ℕ → ℕ → ℕ → ℕ → B → List ℕ → List ℕ
-run_from perform fuel room place count b [] = count_line count
-run_from perform zero room place count b (x ∷ xs) = []
+unfoldable pub run_from : {B : Type 0} → (Record → ℕ → B → Performed B) → ℕ → ℕ → ℕ → ℕ → B → List ℕ → Outcome B
+run_from perform fuel room place count b [] = ended (count_line count) b
+run_from perform zero room place count b (x ∷ xs) = ended [] b
 run_from perform (suc fuel) room place count b (x ∷ xs) =
     elim (nat_lt room room_needed) [
-      | true ↦ refusal_line OutputFull place
+      | true ↦ ended (refusal_line OutputFull place) b
       | false ↦
           elim (next (x ∷ xs)) [
-            | at_end ↦ count_line count
-            | fault r ↦ refusal_line r place
+            | at_end ↦ ended (count_line count) b
+            | fault r ↦ ended (refusal_line r place) b
             | got r len rest ↦
                 (let p = perform r place b in
-                p.line ++ run_from perform fuel (room - length p.line) (place + 2 + len) (count + 1) p.board rest)
+                let later = run_from perform fuel (room - length p.line) (place + 2 + len) (count + 1) p.board rest in
+                record { lines = p.line ++ later.lines; board = later.board })
           ]
     ]
 
@@ -151,14 +161,21 @@ longest_trace = 65536
 abbrev pub version : ℕ
 version = 1
 
--- All lines of a trace.
-unfoldable pub run_lines : {B : Type 0} → (Record → ℕ → B → Performed B) → ℕ → B → List ℕ → List ℕ
-run_lines perform room b [] = refusal_line NotATrace 0
-run_lines perform room b (v ∷ bytes) =
+-- The run of a whole trace, with `room` bytes of output.
+unfoldable pub run : {B : Type 0} → (Record → ℕ → B → Performed B) → ℕ → B → List ℕ → Outcome B
+run perform room b [] = ended (refusal_line NotATrace 0) b
+run perform room b (v ∷ bytes) =
     elim (v == version && nat_lt (length bytes) longest_trace) [
       | true ↦ run_from perform (length bytes) room 1 0 b bytes
-      | false ↦ refusal_line NotATrace 0
+      | false ↦ ended (refusal_line NotATrace 0) b
     ]
+
+-- All its lines, and what its records were carried out on, as it is left.
+abbrev pub run_lines : {B : Type 0} → (Record → ℕ → B → Performed B) → ℕ → B → List ℕ → List ℕ
+run_lines perform room b trace = (run perform room b trace).lines
+
+abbrev pub run_board : {B : Type 0} → (Record → ℕ → B → Performed B) → ℕ → B → List ℕ → B
+run_board perform room b trace = (run perform room b trace).board
 
 module _ {A B C D : Type 0} (f : Fitting A B C D) where
   -- What a call prints: its own line, or the refusal's.

@@ -3,14 +3,14 @@ use Rattle.std.proofs.Common.{◌≡◌, ℕ, zero, suc, ◌+◌, ◌-◌, ◌�
 use Rattle.std.proofs.lemmas.Bool.{false≢true, cases_Bool}
 use Rattle.std.specs.Option.{MatchOption}
 use Rattle.std.specs.Result.{result_ok}
-use Rattle.rules.specs.Trace.{Record, advance, read, write, acknowledge, queue, note, Performed, Next, at_end, fault, got, next, run_from, run_lines, note_line, on_board, standard, standard_board, printed}
+use Rattle.rules.specs.Trace.{Record, advance, read, write, acknowledge, queue, note, Performed, Next, at_end, fault, got, next, Outcome, run_from, run_lines, note_line, on_board, standard, standard_board, printed}
 use Rattle.rules.specs.declared.refusal.Refusal.{Refusal}
-use Rattle.trace.specs.declared.reader.Reader.{Reader}
+use Rattle.records.specs.declared.reader.Reader.{Reader}
 use Rattle.trace.specs.Notes.{is_note, notes_from, only_notes, bare}
 use Rattle.trace.specs.Performing.{performed}
-use Rattle.trace.specs.declared.record.Record as code
-use Rattle.trace.specs.Reading.{whole, left, well_started, GivesNext}
-use Rattle.trace.specs.Records.{meant}
+use Rattle.records.specs.declared.record.Record as code
+use Rattle.records.specs.Reading.{whole, left, well_started, GivesNext}
+use Rattle.records.specs.Records.{meant}
 use Rattle.trace.proofs.Running.{turn, next_nil, moves_on, run_refused, run_started}
 
 abbrev checked : List ℕ → Bool → Bool
@@ -95,9 +95,9 @@ PrintsNotes {S} perform = (text : List ℕ) (place : ℕ) (s : S) → perform (n
 
 module _ {S S' : Type 0} (P : Record → ℕ → S → Performed S) (P' : Record → ℕ → S' → Performed S') (law : PrintsNotes P) (law' : PrintsNotes P') where
   abbrev Same : ℕ → Type 0
-  Same fuel = (room place count : ℕ) (s : S) (s' : S') (ys : List ℕ) → notes_from fuel ys ≡ true → run_from P fuel room place count s ys ≡ run_from P' fuel room place count s' ys
+  Same fuel = (room place count : ℕ) (s : S) (s' : S') (ys : List ℕ) → notes_from fuel ys ≡ true → (run_from P fuel room place count s ys).lines ≡ (run_from P' fuel room place count s' ys).lines
 
-  same_turn : (fuel room place count : ℕ) (s : S) (s' : S') (b : Bool) (n : Next) → Same fuel → noted fuel n ≡ true → turn P fuel room place count s b n ≡ turn P' fuel room place count s' b n
+  same_turn : (fuel room place count : ℕ) (s : S) (s' : S') (b : Bool) (n : Next) → Same fuel → noted fuel n ≡ true → (turn P fuel room place count s b n).lines ≡ (turn P' fuel room place count s' b n).lines
   same_turn fuel room place count s s' true n ih h = refl
   same_turn fuel room place count s s' false at_end ih h = refl
   same_turn fuel room place count s s' false (fault e) ih h = refl
@@ -107,11 +107,11 @@ module _ {S S' : Type 0} (P : Record → ℕ → S → Performed S) (P' : Record
   same_turn fuel room place count s s' false (got acknowledge len rest) ih h = absurd (false≢true h)
   same_turn fuel room place count s s' false (got (queue tick port byte) len rest) ih h = absurd (false≢true h)
   same_turn fuel room place count s s' false (got (note text) len rest) ih h =
-      ap (λ (p : Performed S). p.line ++ run_from P fuel (room - length p.line) (place + 2 + len) (count + 1) p.board rest) (law text place s)
+      ap (λ (p : Performed S). p.line ++ (run_from P fuel (room - length p.line) (place + 2 + len) (count + 1) p.board rest).lines) (law text place s)
       ∙ ap (λ (zs : List ℕ). note_line text ++ zs) (ih (room - length (note_line text)) (place + 2 + len) (count + 1) s s' rest h)
-      ∙ sym (ap (λ (p : Performed S'). p.line ++ run_from P' fuel (room - length p.line) (place + 2 + len) (count + 1) p.board rest) (law' text place s'))
+      ∙ sym (ap (λ (p : Performed S'). p.line ++ (run_from P' fuel (room - length p.line) (place + 2 + len) (count + 1) p.board rest).lines) (law' text place s'))
 
-  same_from : (fuel room place count : ℕ) (s : S) (s' : S') (ys : List ℕ) → notes_from fuel ys ≡ true → run_from P fuel room place count s ys ≡ run_from P' fuel room place count s' ys
+  same_from : (fuel room place count : ℕ) (s : S) (s' : S') (ys : List ℕ) → notes_from fuel ys ≡ true → (run_from P fuel room place count s ys).lines ≡ (run_from P' fuel room place count s' ys).lines
   unfolding run_from notes_from
   same_from fuel room place count s s' [] h = refl
   same_from zero room place count s s' (x ∷ xs) h = refl
@@ -120,8 +120,8 @@ module _ {S S' : Type 0} (P : Record → ℕ → S → Performed S) (P' : Record
   pub same_lines : (room : ℕ) (s : S) (s' : S') (trace : List ℕ) → only_notes trace ≡ true → run_lines P room s trace ≡ run_lines P' room s' trace
   same_lines room s s' trace h =
       elim (cases_Bool (well_started trace)) [
-        | inl e ↦ run_started P room s trace e ∙ same_from (length (drop 1 trace)) room 1 0 s s' (drop 1 trace) (ap (λ (b : Bool). checked trace b) (sym e) ∙ h) ∙ sym (run_started P' room s' trace e)
-        | inr e ↦ run_refused P room s trace e ∙ sym (run_refused P' room s' trace e)
+        | inl e ↦ ap (λ (x : Outcome S). x.lines) (run_started P room s trace e) ∙ same_from (length (drop 1 trace)) room 1 0 s s' (drop 1 trace) (ap (λ (b : Bool). checked trace b) (sym e) ∙ h) ∙ sym (ap (λ (x : Outcome S'). x.lines) (run_started P' room s' trace e))
+        | inr e ↦ ap (λ (x : Outcome S). x.lines) (run_refused P room s trace e) ∙ sym (ap (λ (x : Outcome S'). x.lines) (run_refused P' room s' trace e))
       ]
 
 board_prints_notes : PrintsNotes (on_board standard)

@@ -1,7 +1,7 @@
-pub mod Records
-pub mod Reading
-pub mod Printing
 pub mod Performing
 pub mod Running
 pub mod Notes
-pub mod Encoding
+pub use Rattle.records.specs.Records
+pub use Rattle.records.specs.Reading
+pub use Rattle.records.specs.Encoding
+pub use Rattle.lines.specs.Printing

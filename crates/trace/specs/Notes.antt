@@ -3,7 +3,7 @@ use Rattle.std.specs.Prelude.{◌≡◌, ℕ, zero, suc, Bool, true, false, ◌&
 use Rattle.rules.specs.Trace.{Record, advance, read, write, acknowledge, queue, note, Performed, at_end, fault, got, next, access_line, vector_line, note_line, refusal_line}
 use Rattle.rules.specs.declared.refusal.Refusal.TheVariants.{PastEnd, QueueFull}
 use Rattle.trace.specs.Performing.{performed}
-use Rattle.trace.specs.Reading.{well_started}
+use Rattle.records.specs.Reading.{well_started}
 
 abbrev pub is_note : Record → Bool
 is_note (advance n) = false

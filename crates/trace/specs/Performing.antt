@@ -3,8 +3,8 @@ use Rattle.std.specs.Prelude.{ℕ, List, Ok, Err, Result}
 use Rattle.rules.specs.Trace.{Performed, advance_line, queue_line, refusal_line}
 use Rattle.rules.specs.declared.refusal.Refusal.{Refusal}
 use Rattle.trace.specs.declared.machine.Elapsed.{Elapsed}
-use Rattle.trace.specs.declared.output.Line.{Line}
-use Rattle.trace.specs.Printing.{line_bytes}
+use Rattle.lines.specs.declared.output.Line.{Line}
+use Rattle.lines.specs.Printing.{line_bytes}
 
 abbrev pub performed : {B : Type 0} → List ℕ → B → Performed B
 performed line b = record { line = line; board = b }

@@ -2,13 +2,12 @@
 ghost use Rattle.std.specs.Prelude.{◌≡◌, true, false, ◌++◌, length, take, drop, Some, None};
 ghost use Rattle.rules.specs.Trace as rules;
 ghost use Rattle.trace.specs.Notes.{is_note, notes_from, only_notes, bare, bare_notes};
-ghost use Rattle.trace.specs.Reading.{left};
-ghost use Rattle.trace.specs.Records.{meant};
+ghost use Rattle.records.specs.Reading.{left};
+ghost use Rattle.records.specs.Records.{meant};
 
 use crate::machine::{Elapsed, Machine};
-use crate::reader::Reader;
-use crate::record::Record;
 use crate::run::run_trace;
+use records::{Reader, Record};
 use rules::{QueuedWrite, Refusal};
 
 // A machine with nothing on it. It stands in for the board where no record needs one.

@@ -3,12 +3,12 @@
 
 #[cfg(test)]
 mod tests {
-    use rules::Refusal;
+    use rules::{QueuedWrite, Refusal};
     use std::alloc::Global;
     use std::iter::repeat_n;
     use std::process::Abort;
     use std::test::Fail;
-    use trace::{Elapsed, Line, Output, Refused, run_notes};
+    use trace::{LONGEST_TRACE, Line, Output, Reader, Record, Refused, run_notes};
 
     // Three notes, one of them empty. Their length fields start at 1, 6 and 9.
     const NOTES: [u8; 13] = *b"\x01\x00\x03\x06ab\x00\x01\x06\x00\x02\x06c";
@@ -70,6 +70,36 @@ mod tests {
         prints(&rt, rt.alloc(), &too_long, 200, b"! 1 T 0\n")
     }
 
+    fn add_copies(bytes: &mut Vec<u8>, part: &[u8], count: usize) -> Result<(), Fail> {
+        for _ in 0..count {
+            bytes.extend_from_slice(part)?;
+        }
+        Ok(())
+    }
+
+    // The version and 21,845 empty notes of 3 bytes are 65,536 bytes. Each note prints 3 bytes too, so the last one needs 100 of room
+    // behind 65,532.
+    #[test]
+    fn reads_the_longest_trace(rt: HostRuntime) -> Result<(), Fail> {
+        let mut trace = vec![in rt.alloc(); 1u8]?;
+        add_copies(&mut trace, b"\x00\x01\x06", 21845)?;
+        assert!(&rt; trace.len() == LONGEST_TRACE);
+        let cases: [(usize, usize, &[u8]); 3] = [
+            (65632, 21845, b". 21845\n"),
+            (65631, 21844, b"! 10 T 65533\n"),
+            // An output as long as the trace: exactly 100 bytes remain before the record at 65,437.
+            (65536, 21813, b"! 10 T 65440\n"),
+        ];
+        for (room, notes, last) in &cases {
+            let mut want = Vec::new(rt.alloc());
+            add_copies(&mut want, b"# \n", *notes)?;
+            want.extend_from_slice(last)?;
+            prints(&rt, rt.alloc(), &trace, *room, &want)?;
+        }
+        trace.push(0)?;
+        prints(&rt, rt.alloc(), &trace, 200, b"! 1 T 0\n")
+    }
+
     #[test]
     fn is_cut_at_every_byte(rt: HostRuntime) -> Result<(), Fail> {
         for end in 0..14usize {
@@ -84,6 +114,46 @@ mod tests {
                 _ => b"# ab\n# \n# c\n. 3\n",
             };
             prints(&rt, rt.alloc(), &NOTES[0..end], 200, want)?;
+        }
+        Ok(())
+    }
+
+    // A record of each kind. Their length fields start at 1, 12, 17, 23, 26 and 40.
+    const KINDS: [u8; 45] =
+        *b"\x01\x00\x09\x01\x00\x00\x00\x01\x00\x00\x00\x00\x00\x03\x02\x03\xf8\x00\x04\x03\x00\x21\xff\x00\x01\x04\x00\x0c\x05\x00\x01\x00\x00\x00\x00\x00\x00\x00\x43\x34\x00\x03\x06ab";
+
+    // Whichever byte a trace ends with, the records that are there whole are read, and then the end or a cut is seen.
+    #[test]
+    fn reads_kinds_cut_at_every_byte(rt: HostRuntime) -> Result<(), Fail> {
+        let queued = QueuedWrite {
+            tick: 281474976710656,
+            port: 0x0043,
+            byte: 0x34,
+        };
+        let records: [(usize, Record<'_>); 6] = [
+            (12, Record::Advance(4294967296)),
+            (17, Record::Read(0x03F8)),
+            (23, Record::Write(0x0021, 0xFF)),
+            (26, Record::Acknowledge),
+            (40, Record::Queue(queued)),
+            (45, Record::Note(b"ab")),
+        ];
+        for end in 1..=45usize {
+            let mut reader = Reader::new(&KINDS[0..end]).map_err(|_| "no trace")?;
+            let mut place = 1;
+            for (next, record) in &records {
+                if *next <= end {
+                    assert!(&rt; reader.next() == Some(Ok(*record)));
+                    place = *next;
+                }
+            }
+            let want = if place == end {
+                None
+            } else {
+                Some(Err(Refusal::CutOff))
+            };
+            assert!(&rt; reader.next() == want);
+            assert!(&rt; reader.place() == place);
         }
         Ok(())
     }
@@ -191,10 +261,10 @@ mod tests {
     // A line of each format.
     #[test]
     fn prints_lines(rt: HostRuntime) -> Result<(), Fail> {
-        let advanced = Line::Advanced(Elapsed {
+        let advanced = Line::Advanced {
             time: 281474976710656,
             edges: 0,
-        });
+        };
         let read = Line::Read {
             port: 0x03F8,
             byte: 0xAB,

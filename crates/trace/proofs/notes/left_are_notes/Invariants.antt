@@ -1,6 +1,6 @@
 use Rattle.std.proofs.Common.{◌-◌, length}
 use Rattle.trace.specs.Notes.{notes_from}
-use Rattle.trace.specs.Reading.{whole, left}
+use Rattle.records.specs.Reading.{whole, left}
 use Rattle.trace.proofs.OnlyNotes.{NotesLeft}
 use Rattle.trace.proofs.notes.left_are_notes.Given as goal
 

@@ -1,0 +1,5 @@
+use Rattle.lines.proofs.Printing.{printed_then}
+use Rattle.lines.proofs.output.Output.counted.Goals as goal
+
+pub returns : goal.returns
+returns c = printed_then c.mark.ensures (printed_then c.decimal.ensures c.byte.ensures)

@@ -1,0 +1,3 @@
+pub mod Decoding
+pub mod Reading
+pub mod RoundTrip

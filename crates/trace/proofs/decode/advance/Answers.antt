@@ -1,6 +1,0 @@
-use Rattle.std.proofs.Common.{length, ap, ◌∙◌}
-use Rattle.trace.proofs.Decoding.{advance_fields}
-use Rattle.trace.proofs.decode.advance.Goals as goal
-
-pub returns : goal.returns
-returns c = let whole = c.in_ok-exactly.ensures in rw (← whole.1) (advance_fields c.in_ok-exactly.field-0 c.from_be_bytes.result (ap length whole.1 ∙ whole.0) c.from_be_bytes.ensures)

@@ -1,4 +1,0 @@
-use Rattle.trace.proofs.output.Output.+decimal.Given as goal
-
-abbrev pub decreases-decimal : goal.decreases-decimal
-decreases-decimal l = l.n

@@ -1,5 +1,0 @@
-use Rattle.trace.proofs.Printing.{printed_then}
-use Rattle.trace.proofs.output.Output.acknowledged.Goals as goal
-
-pub returns : goal.returns
-returns c = printed_then c.mark.ensures (printed_then c.hex_byte.ensures c.byte.ensures)

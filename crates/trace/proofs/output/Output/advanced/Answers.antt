@@ -1,5 +1,0 @@
-use Rattle.trace.proofs.Printing.{printed_then}
-use Rattle.trace.proofs.output.Output.advanced.Goals as goal
-
-pub returns : goal.returns
-returns c = printed_then c.mark.ensures (printed_then c.decimal.ensures (printed_then c.byte.ensures (printed_then c.decimal-2.ensures c.byte-2.ensures)))

@@ -1,7 +1,0 @@
-// The encoding of records.
-ghost use Rattle.trace.specs.Encoding.{ReadsBack};
-
-// What is encoded by the rules reads back as it was, and reading never goes past the trace.
-pub fn encoding_reads_back()
-    ensures { ReadsBack }
-{}
