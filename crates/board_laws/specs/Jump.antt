@@ -211,7 +211,23 @@ module _ {A B C D : Type 0} (f : Fitting A B C D) where
   pub arrival_settled : (k : ℕ) (b : Board A B C D) (e : ℕ) → Settled (arrival k b e).board
   arrival_settled k b e = settled_carried b.pending (hand f (later k b)) (handing f (counted (later k b) e)).edges (settled_hand (later k b))
 
-  split_ticks : (k n : ℕ) (c : Counted A B C D) → k ≤ n → tick_times f n c ≡ tick_times f (n - k) (tick_times f k c)
+  -- Where no write is due there, it is one handing.
+  pub arrival_none : (k : ℕ) (b : Board A B C D) (e : ℕ) → NoneDue (b.time + k) b.pending → arrival k b e ≡ handing f (counted (later k b) e)
+  arrival_none k b e none = carry_none b.pending (hand f (later k b)) (handing f (counted (later k b) e)).edges none
+
+  -- Ticks are what time counts.
+  tick_time : (c : Counted A B C D) → (tick f c).board.time ≡ c.board.time + 1
+  unfolding tick
+  tick_time c =
+      let ticked = devices_ticked f c.board in
+      carry_keeps_time c.board.pending (hand f ticked) (handing f (counted ticked c.edges)).edges
+
+  pub tick_times_time : (n : ℕ) (c : Counted A B C D) → (tick_times f n c).board.time ≡ c.board.time + n
+  unfolding tick_times
+  tick_times_time zero c = sym (add-zero c.board.time)
+  tick_times_time (suc n) c = omega (arith, tick_times_time n (tick f c), tick_time c)
+
+  pub split_ticks : (k n : ℕ) (c : Counted A B C D) → k ≤ n → tick_times f n c ≡ tick_times f (n - k) (tick_times f k c)
   split_ticks k n c h = ap (λ m. tick_times f m c) (omega arith) ∙ tick_times_add k (n - k) c
 
   -- Of n ticks, the first k in one jump.
