@@ -1,5 +1,5 @@
 -- What the deadlines tell of the ticks ahead.
-use Rattle.std.proofs.Common.{◌≡◌, ℕ, zero, ◌+◌, ◌-◌, ◌<◌, ◌≤◌, Bool, true, false, cond, leb, List, [], ◌∷◌, get_or, Some, None, Option, refl, sym, ap, ◌∙◌, subst, inl, inr, le-leb, arith}
+use Rattle.std.proofs.Common.{◌≡◌, ℕ, zero, suc, ◌+◌, ◌-◌, ◌<◌, ◌≤◌, Bool, true, false, cond, leb, List, [], ◌∷◌, get_or, Some, None, Option, refl, sym, ap, ◌∙◌, subst, inl, inr, le-leb, arith}
 use Rattle.std.proofs.lemmas.Bool.{cases_Bool, cases_eq, lt-leb}
 use Rattle.std.proofs.lemmas.Bool.Decides.{nat_tests}
 use Rattle.agenda.specs.Waiting.{first_of}
@@ -10,7 +10,7 @@ use Rattle.rules.specs.Board.{Fitting}
 use Rattle.rules.specs.TickLaws.{ticks_add}
 use Rattle.slots.specs.Slots.{States, slot_number, levels_of, ticked, Still, Foretold}
 use Rattle.slots.specs.declared.fitted.Slot.{Slot}
-use Rattle.board.specs.Deadlines.{comes_before, NoneBefore, AllDue, with_announced, Watched}
+use Rattle.board.specs.Deadlines.{comes_before, NoneBefore, at_tick, all_at, with_announced, Watched}
 use Rattle.board.specs.declared.board.deadlines.Deadline.{Deadline}
 
 -- Four levels that are the same one by one are the same.
@@ -33,7 +33,7 @@ none_of_insert n t d (x ∷ ds) none = elim (cases_Bool (comes_before x d)) [
 
 pub none_of_announced : (n t now : ℕ) (slot : Slot) (announced : Option ℕ) (ds : List Deadline) → NoneBefore n t (with_announced now slot announced ds) → NoneBefore n t ds
 none_of_announced n t now slot None ds none = none
-none_of_announced n t now slot (Some k) ds none = (none_of_insert n t (record { tick = now + k; slot = slot }) ds none).1
+none_of_announced n t now slot (Some k) ds none = (none_of_insert n t (at_tick (now + k) slot) ds none).1
 
 -- No deadline lies before the first one.
 none_precedes : (t : ℕ) (d : Deadline) (ds : List Deadline) → NonePrecedes comes_before d ds → t ≤ d.tick → (n : ℕ) → NoneBefore n t ds
@@ -55,6 +55,13 @@ none_before_none t (x ∷ ds) is n = cc
 pub first_ahead : (t : ℕ) (ds : List Deadline) (d : Deadline) → ((n : ℕ) → NoneBefore n t ds) → Some d ≡ first_of ds → t ≤ d.tick
 first_ahead t [] d none is = cc
 first_ahead t (x ∷ ds) d none is = let same : x ≡ d = cc in subst (λ y. t ≤ y.tick) same ((none (slot_number x.slot)).0 refl)
+
+none_of_all : (n t tick : ℕ) → n < 4 → NoneBefore n t (all_at tick) → t ≤ tick
+none_of_all zero t tick few none = none.0 refl
+none_of_all (suc zero) t tick few none = none.1.0 refl
+none_of_all (suc (suc zero)) t tick few none = none.1.1.0 refl
+none_of_all (suc (suc (suc zero))) t tick few none = none.1.1.1.0 refl
+none_of_all (suc (suc (suc (suc n)))) t tick few none = absurd (omega arith)
 
 -- How many deadlines have come.
 abbrev pub come : ℕ → List Deadline → ℕ
@@ -78,7 +85,7 @@ module _ {S0 S1 S2 S3 : Type 0} (f : Fitting S0 S1 S2 S3) where
   come_announced now n slot (Some k) ds s told =
       let ahead : leb (now + k) now ≡ false = lt-leb (now + k) now (omega (arith, told.0)) in
       let none : ◌≡◌ {A = ℕ} (cond (leb (now + k) now) 1 0) 0 = rw ahead in
-      omega (arith, none, come_insert now (record { tick = now + k; slot = slot }) ds)
+      omega (arith, none, come_insert now (at_tick (now + k) slot) ds)
 
   pub renewed_fewer : (now : ℕ) (d : Deadline) (announced : Option ℕ) (old ds new : List Deadline) (s : States S0 S1 S2 S3) → d.tick ≤ now → Foretold f (slot_number d.slot) announced s
       → old ≡ d ∷ ds → new ≡ with_announced now d.slot announced ds → come now new < come now old
@@ -94,7 +101,7 @@ module _ {S0 S1 S2 S3 : Type 0} (f : Fitting S0 S1 S2 S3) where
       → Watched f (slot_number slot) ahead now (with_announced now slot announced ds) s
   announced_watched now ahead slot None ds s near told = λ k within none. still_less (slot_number slot) k (horizon + 1) s (omega arith) told
   announced_watched now ahead slot (Some a) ds s near told = λ k within none.
-      let before : now + k ≤ now + a = (none_of_insert (slot_number slot) (now + k) (record { tick = now + a; slot = slot }) ds none).0 refl in
+      let before : now + k ≤ now + a = (none_of_insert (slot_number slot) (now + k) (at_tick (now + a) slot) ds none).0 refl in
       still_less (slot_number slot) k a s (omega arith) told.2
 
   pub renewed_watched : (n ahead now : ℕ) (d : Deadline) (announced : Option ℕ) (old ds new : List Deadline) (s : States S0 S1 S2 S3) → ahead ≤ horizon → Foretold f (slot_number d.slot) announced s
@@ -109,9 +116,9 @@ module _ {S0 S1 S2 S3 : Type 0} (f : Fitting S0 S1 S2 S3) where
           let before : NoneBefore n (now + k) (d ∷ ds) = ((λ same. absurd (other (sym same))), none_of_announced n (now + k) now d.slot announced ds none) in
           watched k within (subst (NoneBefore n (now + k)) (sym was) before)
 
-  -- Where each slot is due, nothing has to be known of one.
-  pub due_watched : (n ahead now : ℕ) (ds : List Deadline) (s : States S0 S1 S2 S3) → n < 4 → AllDue now ds → Watched f n ahead now ds s
-  due_watched n ahead now ds s few due = λ k within none j early. let at : now + k ≤ now = due n (now + k) few none in absurd (omega arith)
+  -- Where every slot is due now, nothing has to be known of one.
+  pub due_watched : (n ahead now : ℕ) (s : States S0 S1 S2 S3) → n < 4 → Watched f n ahead now (all_at now) s
+  due_watched n ahead now s few = λ k within none j early. let at : now + k ≤ now = none_of_all n (now + k) now few none in absurd (omega arith)
 
   ticked_add : (k j : ℕ) (s : States S0 S1 S2 S3) → ticked f (k + j) s ≡ ticked f j (ticked f k s)
   ticked_add k j s = λ i. record {

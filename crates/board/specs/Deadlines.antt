@@ -1,11 +1,12 @@
 -- The deadlines of the slots: in which order they come, and what they tell of the ticks ahead.
-use Rattle.std.specs.Prelude.{◌≡◌, ℕ, ◌+◌, ◌<◌, ◌≤◌, Bool, true, false, ◌&&◌, ◌||◌, List, [], ◌∷◌, Some, None, Option, ◌==◌, nat_lt}
+use Rattle.std.specs.Prelude.{◌≡◌, ℕ, ◌+◌, ◌-◌, ◌≤◌, min, Bool, true, false, ◌&&◌, ◌||◌, List, [], ◌∷◌, Some, None, Option, ◌==◌, nat_lt}
 use Rattle.std.proofs.Common.{rules}
 use Rattle.agenda.specs.Order.{IsStrictTotalOrder}
 use Rattle.rules.specs.Ascending.{insert}
 use Rattle.rules.specs.Board.{Fitting}
 use Rattle.slots.specs.Slots.{States, slot_number, Still}
 use Rattle.slots.specs.declared.fitted.Slot.{Slot}
+use Rattle.slots.specs.declared.fitted.Slot.TheVariants.{Zero, One, Two, Three}
 use Rattle.board.specs.declared.board.deadlines.Deadline.{Deadline}
 
 -- By tick, then by slot.
@@ -35,14 +36,22 @@ abbrev pub NoneBefore : ℕ → ℕ → List Deadline → Type 0
 NoneBefore n t [] = Unit {0}
 NoneBefore n t (d ∷ ds) = (slot_number d.slot ≡ n → t ≤ d.tick) × NoneBefore n t ds
 
--- Each slot has a deadline that has come.
-abbrev pub AllDue : ℕ → List Deadline → Type 0
-AllDue now ds = (n t : ℕ) → n < 4 → NoneBefore n t ds → t ≤ now
+-- How far it is to the first deadline, at most `left` ticks.
+abbrev pub to_first : ℕ → ℕ → List Deadline → ℕ
+to_first now left [] = left
+to_first now left (d ∷ ds) = min left (d.tick - now)
+
+abbrev pub at_tick : ℕ → Slot → Deadline
+at_tick tick slot = record { tick = tick; slot = slot }
+
+-- Every slot's deadline at the same tick.
+abbrev pub all_at : ℕ → List Deadline
+all_at tick = at_tick tick Zero ∷ at_tick tick One ∷ at_tick tick Two ∷ at_tick tick Three ∷ []
 
 -- The deadlines with that of a slot which has announced for how many ticks its level stays.
 abbrev pub with_announced : ℕ → Slot → Option ℕ → List Deadline → List Deadline
 with_announced now slot None ds = ds
-with_announced now slot (Some k) ds = insert comes_before (record { tick = now + k; slot = slot }) ds
+with_announced now slot (Some k) ds = insert comes_before (at_tick (now + k) slot) ds
 
 -- Slot n shows its present level on the ticks before its first deadline, of those up to `ahead` ticks ahead.
 abbrev pub Watched : {S0 S1 S2 S3 : Type 0} → Fitting S0 S1 S2 S3 → ℕ → ℕ → ℕ → List Deadline → States S0 S1 S2 S3 → Type 0

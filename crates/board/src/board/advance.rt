@@ -1,9 +1,9 @@
 // The passing of time: jumps to the ticks on which something may happen.
-ghost use Rattle.std.specs.Prelude.{◌+◌, ◌-◌, ◌^◌, ◌<◌, ◌≤◌};
+ghost use Rattle.std.specs.Prelude.{◌≡◌, ◌+◌, ◌-◌, ◌^◌, ◌<◌, ◌≤◌};
 ghost use Rattle.rules.specs.Device.{horizon};
 ghost use Rattle.rules.specs.Board as rules;
 ghost use Rattle.board_laws.specs.Jump.{Idle};
-ghost use Rattle.board.specs.Steps.{CarriesNext, CarriesOut, Arrives, Runs};
+ghost use Rattle.board.specs.Steps.{CarriesNext, CarriesOut, Arrives, Runs, to_write};
 ghost use Rattle.board.specs.Answers.{of_advance};
 ghost use Rattle.board.specs.View.{view, Does};
 
@@ -56,6 +56,7 @@ impl<'a, F: Slots> Board<'a, F> {
         ensures some { 1 ≤ result }
         ensures most { result ≤ left }
         ensures idle { Idle F.fitting (result - 1) (view F.states self.now) }
+        ensures nearest { result ≡ to_write (view F.states self.now).time left (view F.states self.now).pending }
     {
         match self.queue.first() {
             Some(write) if self.time < write.tick => left.min(write.tick - self.time),

@@ -4,7 +4,7 @@ ghost use Rattle.agenda.specs.Nodes.{usable};
 ghost use Rattle.agenda.specs.Waiting.{waiting};
 ghost use Rattle.rules.specs.Device.{horizon};
 ghost use Rattle.slots.specs.Slots.{slot_number, Foretold};
-ghost use Rattle.board.specs.Deadlines.{comes_before, in_order, NoneBefore, AllDue, with_announced, Watched};
+ghost use Rattle.board.specs.Deadlines.{comes_before, in_order, NoneBefore, to_first, all_at, with_announced, Watched};
 
 use agenda::{Agenda, Entry};
 use slots::{Slot, Slots};
@@ -36,7 +36,7 @@ pub(super) struct Deadlines<'n> {
 impl<'n> Deadlines<'n> {
     // Every slot is due now, and so announces before time passes.
     pub(super) fn new(nodes: &'n mut [Deadline; 4], now: u64) -> Deadlines<'n>
-        ensures { AllDue now (waiting comes_before result.agenda) }
+        ensures { waiting comes_before result.agenda ≡ all_at now }
     {
         let mut agenda = Agenda::new(nodes);
         for slot in Slot::ALL {
@@ -86,6 +86,7 @@ impl<'n> Deadlines<'n> {
         ensures some { 1 ≤ result }
         ensures most { result ≤ left }
         ensures none { (n : ℕ) → NoneBefore n (now + result) (waiting comes_before self.now.agenda) }
+        ensures nearest { result ≡ to_first now left (waiting comes_before self.now.agenda) }
     {
         match self.agenda.first() {
             Some(deadline) => left.min(deadline.tick - now),

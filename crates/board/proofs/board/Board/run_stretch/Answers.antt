@@ -17,7 +17,10 @@ loop-left-init g c = record {
   passed = search rules;
   fewer = omega arith;
   idle = c.requires.idle;
-  watched = λ n few. due_watched g.F.Slots.fitting n c.args.ticks c.args.self.now.time (waiting comes_before c.new-deadlines.result.agenda) (g.F.Slots.states c.args.self.now.ports.slots) few c.new-deadlines.ensures;
+  watched = λ n few.
+      let board = c.args.self.now in
+      let slots = g.F.Slots.states board.ports.slots in
+      subst (λ ds. Watched g.F.Slots.fitting n c.args.ticks board.time ds slots) (sym c.new-deadlines.ensures) (due_watched g.F.Slots.fitting n c.args.ticks board.time slots few);
 }
 
 pub renew-requires : goal.renew-requires

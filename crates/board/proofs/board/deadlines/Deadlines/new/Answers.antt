@@ -1,52 +1,48 @@
-use Rattle.std.proofs.Common.{◌≡◌, ℕ, ◌+◌, ◌<◌, ◌≤◌, zero, suc, List, [], ◌∷◌, length, get_or, Ok, Result, sym, refl, ap, ◌∙◌, subst, inl, inr, arith}
+use Rattle.std.proofs.Common.{◌≡◌, ℕ, zero, suc, ◌+◌, ◌<◌, ◌≤◌, Bool, true, false, List, [], ◌∷◌, length, get_or, take, Ok, Result, refl, ap, ◌∙◌, subst, eqb, ltb, eq-eqb, le-ltb, length-take-le, arith}
 use Rattle.std.specs.Result.{OnOk}
-use Rattle.std.proofs.lemmas.Bool.{cases_eq}
 use Rattle.agenda.specs.Waiting.{waiting}
-use Rattle.agenda.proofs.Bag.{length_insert}
 use Rattle.rules.specs.Ascending.{insert}
-use Rattle.slots.specs.Slots.{slot_number}
 use Rattle.slots.specs.declared.fitted.Slot.{Slot}
 use Rattle.slots.specs.declared.fitted.Slot.TheVariants.{Zero, One, Two, Three}
-use Rattle.board.specs.Deadlines.{comes_before, NoneBefore}
+use Rattle.board.specs.Deadlines.{comes_before, at_tick, all_at}
 use Rattle.board.specs.declared.board.deadlines.Deadline.{Deadline}
 use Rattle.board.proofs.Called.{waiting_len}
-use Rattle.board.proofs.Stillness.{none_of_insert}
 use Rattle.board.proofs.board.deadlines.Deadlines.new.Goals as goal
 
 abbrev slots : List Slot
 slots = Zero ∷ One ∷ Two ∷ Three ∷ []
 
--- They stand in the order of their numbers.
-number_at : (i : ℕ) → i < 4 → slot_number (get_or slots i Zero) ≡ i
-number_at zero h = refl
-number_at (suc zero) h = refl
-number_at (suc (suc zero)) h = refl
-number_at (suc (suc (suc zero))) h = refl
-number_at (suc (suc (suc (suc i)))) h = absurd (omega arith)
+-- Of deadlines at one tick, a slot's comes behind those of the slots before it.
+next_in : (tick i : ℕ) → i < 4 → insert comes_before (at_tick tick (get_or slots i Zero)) (take i (all_at tick)) ≡ take (i + 1) (all_at tick)
+unfolding insert
+next_in tick i few = let same : eqb tick tick ≡ true = eq-eqb tick tick refl in let now : ltb tick tick ≡ false = le-ltb tick tick (omega arith) in by_slot i few same now
+  where
+    by_slot : (i : ℕ) → i < 4 → eqb tick tick ≡ true → ltb tick tick ≡ false → insert comes_before (at_tick tick (get_or slots i Zero)) (take i (all_at tick)) ≡ take (i + 1) (all_at tick)
+    by_slot zero few same now = refl
+    by_slot (suc zero) few same now = simp (same, now)
+    by_slot (suc (suc zero)) few same now = simp (same, now)
+    by_slot (suc (suc (suc zero))) few same now = simp (same, now)
+    by_slot (suc (suc (suc (suc i)))) few same now = absurd (omega arith)
 
 -- An insertion went well.
 inserted : {T E : Type 0} (r : Result T E) (t : T) (P : Type 0) → r ≡ Ok t → OnOk r P → P
 inserted r t P ok told = subst (λ r. OnOk r P) ok told
 
 pub unwrap-requires : goal.unwrap-requires
-unwrap-requires c = c.insert.ensures.room.1 (omega (arith, waiting_len c.loop-slot.agenda))
+unwrap-requires c =
+    let i = c.loop-slot.slot-index in
+    let few : i < 4 = c.loop-slot-test.true in
+    c.insert.ensures.room.1 (omega (arith, waiting_len c.loop-slot.agenda, ap length c.loop-slot.invariant.due, length-take-le i (all_at c.args.now) (omega arith)))
 
 pub loop-slot-preserved : goal.loop-slot-preserved
 loop-slot-preserved c =
     let i = c.loop-slot.slot-index in
-    let d : Deadline = record { tick = c.args.now; slot = get_or slots i Zero } in
-    let ds = waiting comes_before c.loop-slot.agenda in
-    let is = inserted c.insert.result c.unwrap.result (waiting comes_before c.insert.new.self ≡ insert comes_before d ds) c.unwrap.ensures c.insert.ensures.ok in
+    let d = at_tick c.args.now (get_or slots i Zero) in
+    let is = inserted c.insert.result c.unwrap.result (waiting comes_before c.insert.new.self ≡ insert comes_before d (waiting comes_before c.loop-slot.agenda)) c.unwrap.ensures c.insert.ensures.ok in
     record {
-      taken = omega (arith, ap length is, length_insert comes_before d ds, c.loop-slot.invariant.taken);
       four = c.insert.ensures.kept.number ∙ c.loop-slot.invariant.four;
-      due = λ n t among none.
-          let split : NoneBefore n t (d ∷ ds) = none_of_insert n t d ds (subst (NoneBefore n t) is none) in
-          elim (cases_eq n i) [
-            | inl here ↦ split.0 (number_at i c.loop-slot-test.true ∙ sym here)
-            | inr there ↦ c.loop-slot.invariant.due n t (omega arith) split.1
-          ];
+      due = is ∙ ap (insert comes_before d) c.loop-slot.invariant.due ∙ next_in c.args.now i c.loop-slot-test.true;
     }
 
 pub returns : goal.returns
-returns c = λ n t few none. c.loop-slot.invariant.due n t (omega arith) none
+returns c = c.loop-slot.invariant.due ∙ (let all : c.loop-slot.slot-index ≡ 4 = omega arith in ap (λ i. take i (all_at c.args.now)) all)
