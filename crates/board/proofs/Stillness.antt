@@ -20,7 +20,7 @@ all_still f s t each =
     λ i. each 0 (omega arith) i ∷ each 1 (omega arith) i ∷ each 2 (omega arith) i ∷ each 3 (omega arith) i ∷ []
 
 -- What lies before a tick, of one more deadline and of the others.
-pub none_of_insert : (n t : ℕ) (d : Deadline) (ds : List Deadline) → NoneBefore n t (insert comes_before d ds) → NoneBefore n t (d ∷ ds)
+none_of_insert : (n t : ℕ) (d : Deadline) (ds : List Deadline) → NoneBefore n t (insert comes_before d ds) → NoneBefore n t (d ∷ ds)
 unfolding insert
 none_of_insert n t d [] none = none
 none_of_insert n t d (x ∷ ds) none = elim (cases_Bool (comes_before x d)) [
@@ -31,7 +31,7 @@ none_of_insert n t d (x ∷ ds) none = elim (cases_Bool (comes_before x d)) [
   | inr p ↦ rw p at none
 ]
 
-pub none_of_announced : (n t now : ℕ) (slot : Slot) (announced : Option ℕ) (ds : List Deadline) → NoneBefore n t (with_announced now slot announced ds) → NoneBefore n t ds
+none_of_announced : (n t now : ℕ) (slot : Slot) (announced : Option ℕ) (ds : List Deadline) → NoneBefore n t (with_announced now slot announced ds) → NoneBefore n t ds
 none_of_announced n t now slot None ds none = none
 none_of_announced n t now slot (Some k) ds none = (none_of_insert n t (at_tick (now + k) slot) ds none).1
 
@@ -46,10 +46,6 @@ none_precedes t d (x ∷ ds) none early n = ((λ _. tick_order x d t none.0 earl
 pub none_before_first : (t : ℕ) (ds : List Deadline) (d : Deadline) → FirstLeads comes_before ds → Some d ≡ first_of ds → t ≤ d.tick → (n : ℕ) → NoneBefore n t ds
 none_before_first t [] d leads is early n = tt
 none_before_first t (x ∷ ds) d leads is early n = let same : d ≡ x = cc in let at : t ≤ x.tick = subst (λ y. t ≤ y.tick) same early in ((λ _. at), none_precedes t x ds leads at n)
-
-pub none_before_none : (t : ℕ) (ds : List Deadline) → None ≡ first_of ds → (n : ℕ) → NoneBefore n t ds
-none_before_none t [] is n = tt
-none_before_none t (x ∷ ds) is n = cc
 
 -- The first is not before what none is before.
 pub first_ahead : (t : ℕ) (ds : List Deadline) (d : Deadline) → ((n : ℕ) → NoneBefore n t ds) → Some d ≡ first_of ds → t ≤ d.tick

@@ -36,6 +36,11 @@ abbrev pub NoneBefore : ℕ → ℕ → List Deadline → Type 0
 NoneBefore n t [] = Unit {0}
 NoneBefore n t (d ∷ ds) = (slot_number d.slot ≡ n → t ≤ d.tick) × NoneBefore n t ds
 
+-- Taking the first deadline, if it has come: otherwise none is left that has.
+abbrev pub TakesDue : ℕ → Option Deadline → List Deadline → List Deadline → Type 0
+TakesDue now None old new = (new ≡ old) × ((n : ℕ) → NoneBefore n (now + 1) new)
+TakesDue now (Some d) old new = (d.tick ≤ now) × (old ≡ d ∷ new)
+
 -- How far it is to the first deadline, at most `left` ticks.
 abbrev pub to_first : ℕ → ℕ → List Deadline → ℕ
 to_first now left [] = left

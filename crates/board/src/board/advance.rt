@@ -11,7 +11,7 @@ use super::deadlines::{Deadline, Deadlines};
 use super::{Board, END_OF_TIME};
 use device::HORIZON;
 use rules::Refusal;
-use slots::{Slot, Slots};
+use slots::Slots;
 
 impl<'a, F: Slots> Board<'a, F> {
     // Carries out the first pending write, if it is due now, and answers the edges of its handing.
@@ -48,7 +48,7 @@ impl<'a, F: Slots> Board<'a, F> {
         edges + self.carry_out()
     }
 
-    // The strides and stretches below are plain numbers, 1 to 2^32: a type of its own would stand in the way of each minimum and difference.
+    // Strides and stretches are plain numbers, 1 to 2^32: a type of its own would stand in the way of each minimum and difference.
 
     // How far time may jump without passing a pending write: at most `left` ticks.
     fn until_write(&self, left: u64) -> u64
@@ -71,10 +71,7 @@ impl<'a, F: Slots> Board<'a, F> {
         requires idle { Idle F.fitting (ticks - 1) (view F.states self.old) }
         ensures { Runs F.states F.fitting ticks result self.old self.new }
     {
-        let mut nodes = [Deadline {
-            tick: 0,
-            slot: Slot::Zero,
-        }; 4];
+        let mut nodes = [Deadline::UNUSED; 4];
         let mut deadlines = Deadlines::new(&mut nodes, self.time);
         let mut left = ticks;
         let mut edges = 0;

@@ -1,10 +1,10 @@
 // The deadlines of the slots, by which time jumps.
-ghost use Rattle.std.specs.Prelude.{◌≡◌, ℕ, ◌+◌, ◌^◌, ◌<◌, ◌≤◌, ◌∷◌, length, Option, MatchOption, IsSome};
+ghost use Rattle.std.specs.Prelude.{◌≡◌, ℕ, ◌+◌, ◌^◌, ◌<◌, ◌≤◌, Option, IsSome};
 ghost use Rattle.agenda.specs.Nodes.{usable};
 ghost use Rattle.agenda.specs.Waiting.{waiting};
 ghost use Rattle.rules.specs.Device.{horizon};
 ghost use Rattle.slots.specs.Slots.{slot_number, Foretold};
-ghost use Rattle.board.specs.Deadlines.{comes_before, in_order, NoneBefore, to_first, all_at, with_announced, Watched};
+ghost use Rattle.board.specs.Deadlines.{comes_before, in_order, NoneBefore, to_first, all_at, with_announced, TakesDue, Watched};
 
 use agenda::{Agenda, Entry};
 use slots::{Slot, Slots};
@@ -12,8 +12,16 @@ use slots::{Slot, Slots};
 // A slot's level stays on the ticks before its deadline. Deadlines wait by tick, and then by slot.
 #[derive(Clone, Copy, Debug, PartialEq, Eq, PartialOrd, Ord)]
 pub(super) struct Deadline {
-    pub(super) tick: u64,
-    pub(super) slot: Slot,
+    tick: u64,
+    slot: Slot,
+}
+
+impl Deadline {
+    // What a node holds until it is used.
+    pub(super) const UNUSED: Deadline = Deadline {
+        tick: 0,
+        slot: Slot::Zero,
+    };
 }
 
 impl Entry for Deadline {
@@ -58,7 +66,7 @@ impl<'n> Deadlines<'n> {
 
     // Takes out the first deadline, if it has come.
     fn take_due(&mut self, now: u64) -> Option<Deadline>
-        ensures taken { MatchOption result ((waiting comes_before self.new.agenda ≡ waiting comes_before self.old.agenda) × ((n : ℕ) → NoneBefore n (now + 1) (waiting comes_before self.new.agenda))) (λ due. (due.tick ≤ now) × (waiting comes_before self.old.agenda ≡ due ∷ waiting comes_before self.new.agenda)) }
+        ensures taken { TakesDue now result (waiting comes_before self.old.agenda) (waiting comes_before self.new.agenda) }
         ensures room { IsSome result → self.new.agenda.len < usable self.new.agenda.nodes.now }
     {
         match self.agenda.first() {

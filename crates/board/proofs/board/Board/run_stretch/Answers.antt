@@ -1,14 +1,13 @@
 use Rattle.std.proofs.Common.{◌≡◌, ℕ, ◌+◌, ◌-◌, ◌<◌, ◌≤◌, sym, ap, ◌∙◌, subst, refl, rules, arith}
 use Rattle.agenda.specs.Waiting.{waiting}
-use Rattle.rules.specs.I8259.{drive_lines}
-use Rattle.rules.specs.Board.{Board, hand, tick_times, on_line, lines}
-use Rattle.board_laws.specs.Jump.{Settled, NoneDue, Quiet, later, counted, jump_first, arrival_none, tick_none}
+use Rattle.rules.specs.Board.{Board, hand}
+use Rattle.board_laws.specs.Jump.{NoneDue, later, tick_none}
 use Rattle.slots.specs.Slots.{States, ticked}
 use Rattle.board.specs.Deadlines.{comes_before, Watched}
 use Rattle.board.specs.View.{view}
-use Rattle.board.specs.Steps.{Progress, ticking}
+use Rattle.board.specs.Steps.{Progress, Arrives, ticking}
 use Rattle.board.proofs.Called.{few_pending}
-use Rattle.board.proofs.Progressing.{progress_both, same_end}
+use Rattle.board.proofs.Progressing.{progress_both, same_end, jumped, handed_alone, settled}
 use Rattle.board.proofs.Stillness.{all_still, due_watched, later_watched}
 use Rattle.board.proofs.board.Board.run_stretch.Goals as goal
 
@@ -37,52 +36,41 @@ pub overflow_add-edges : goal.overflow_add-edges
 overflow_add-edges g c = omega (arith, c.loop-left.invariant.passed.few, c.arrive-edges.ensures.few, few_pending g.F.Slots.states c.args.self.now)
 
 -- The slots of a board.
-slots_of : {A B C D : Type 0} → Board A B C D → States A B C D
+abbrev slots_of : {A B C D : Type 0} → Board A B C D → States A B C D
 slots_of b = record { slot_0 = b.slot_0; slot_1 = b.slot_1; slot_2 = b.slot_2; slot_3 = b.slot_3 }
 
 pub loop-left-preserved : goal.loop-left-preserved
-unfolding slots_of
 loop-left-preserved g c =
     let s = g.F.Slots.states in
     let f = g.F.Slots.fitting in
     let before = c.loop-left.self in
     let after = c.arrive-edges.new.self in
-    let b = view s before in
-    let settled : Settled f b = record {
-      handed = before.handed_over;
-      driven = ap (λ levels. drive_lines (on_line lines levels) b.pair) (sym before.handed_over) ∙ before.driven;
-    } in
     let left = c.loop-left.left in
     let stride = c.until_first-stride.result in
     let found = c.until_first-stride.ensures in
     let known = c.loop-left.invariant in
-    let arrived = c.arrive-edges.ensures in
+    let arrived : Arrives s f stride c.arrive-edges.result before after = record { same = c.arrive-edges.ensures.same; few = c.arrive-edges.ensures.few; nodes = c.arrive-edges.ensures.nodes } in
     let ds = waiting comes_before c.renew.new.self.agenda in
-    let near : left ≤ 4294967296 = omega (arith, known.fewer, c.requires.near) in
-    let watched : (n : ℕ) → n < 4 → Watched f n left b.time ds (s before.ports.slots) = λ n few. c.renew.ensures.watched n left near (known.watched n few) in
-    let quiet : Quiet f (stride - 1) b = λ j soon. all_still f (ticked f j (s before.ports.slots)) (s before.ports.slots) (λ n few. watched n few stride found.most (found.none n) j (omega (arith, found.some))) in
-    let next : Progress s f (ticking f left) (ticking f (left - stride)) 1 c.arrive-edges.result before after = record {
-      same = λ e.
-          jump_first f stride left b e found.some found.most settled quiet (λ i low high. known.idle i low (omega (arith, found.most, high)))
-          ∙ ap (tick_times f (left - stride)) (arrived.same e);
-      few = arrived.few;
-      nodes = arrived.nodes;
-    } in
-    let moved : stride < left → view s after ≡ hand f (later f stride b) = λ more.
-    ap (λ d. d.board) (sym (arrived.same 0) ∙ arrival_none f stride b 0 (known.idle stride found.some (omega arith))) in
+    let now = s before.ports.slots in
+    let watched : (n : ℕ) → n < 4 → Watched f n left before.time ds now = λ n few. c.renew.ensures.watched n left (omega (arith, known.fewer, c.requires.near)) (known.watched n few) in
+    let next : Progress s f (ticking f left) (ticking f (left - stride)) 1 c.arrive-edges.result before after =
+    jumped s f stride left before after c.arrive-edges.result found.some found.most (settled before)
+    (λ j soon. all_still f (ticked f j now) now (λ n few. watched n few stride found.most (found.none n) j (omega (arith, found.some))))
+    (λ i low high. known.idle i low (omega (arith, found.most, high))) arrived in
+    let alone : stride < left → view s after ≡ hand f (later f stride (view s before)) = λ more.
+    handed_alone s f stride before after c.arrive-edges.result (known.idle stride found.some (omega arith)) arrived in
     let ends : after.time + (left - stride) ≡ before.time + left = same_end s f left (left - stride) before after _ _ next in
     let time : after.time ≡ before.time + stride = omega (arith, found.most) in
     record {
       passed = progress_both s f (c.args.ticks - left) 1 c.loop-left.edges c.arrive-edges.result c.args.self.now before after _ _ known.passed next (omega (arith, found.some, known.fewer)) refl;
       fewer = omega (arith, known.fewer);
       idle = λ i low high.
-          let more : stride < left = omega arith in
-          let later_due : NoneDue (before.time + (stride + i)) b.pending = known.idle (stride + i) (omega arith) (omega arith) in
-          let bag : b.pending ≡ (view s after).pending = ap (λ x. x.pending) (sym (moved more)) in
-          subst (NoneDue (after.time + i)) bag (subst (λ t. NoneDue t b.pending) (omega arith) later_due);
+          let due_later = known.idle (stride + i) (omega arith) (omega arith) in
+          let bag = ap (λ b. b.pending) (sym (alone (omega arith))) in
+          subst (NoneDue (after.time + i)) bag (subst (λ t. NoneDue t (view s before).pending) (omega arith) due_later);
       watched = λ n few.
           subst (λ t. Watched f n (left - stride) t ds (s after.ports.slots)) (sym time)
-          (later_watched f n stride left before.time ds (s before.ports.slots) (s after.ports.slots) found.most (λ more. ap slots_of (moved more)) (watched n few));
+          (later_watched f n stride left before.time ds now (s after.ports.slots) found.most (λ more. ap slots_of (alone more)) (watched n few));
     }
 
 pub returns : goal.returns
