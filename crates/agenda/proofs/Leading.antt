@@ -1,5 +1,5 @@
 -- No entry of an ascending list precedes its first.
-use Rattle.std.proofs.Common.{◌≡◌, ℕ, Bool, true, false, List, [], ◌∷◌, inl, inr, take}
+use Rattle.std.proofs.Common.{◌≡◌, ℕ, Bool, false, List, [], ◌∷◌, inl, inr, take}
 use Rattle.std.proofs.lemmas.Bool.{cases_Bool}
 use Rattle.rules.specs.Ascending.{insert, ascending}
 use Rattle.agenda.specs.Nodes.{held}

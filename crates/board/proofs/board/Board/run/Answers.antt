@@ -1,4 +1,4 @@
-use Rattle.std.proofs.Common.{◌≡◌, ◌+◌, ◌-◌, ◌≤◌, ap, ◌∙◌, arith}
+use Rattle.std.proofs.Common.{◌≡◌, ◌-◌, ap, ◌∙◌, arith}
 use Rattle.rules.specs.Board.{tick_times}
 use Rattle.board_laws.specs.Jump.{counted, split_ticks, tick_none}
 use Rattle.board.specs.View.{view}

@@ -1,4 +1,4 @@
-use Rattle.std.proofs.Common.{◌≡◌, ℕ, ◌+◌, ◌-◌, ◌<◌, ◌≤◌, sym, ap, ◌∙◌, subst, refl, rules, arith}
+use Rattle.std.proofs.Common.{◌≡◌, ℕ, ◌+◌, ◌-◌, ◌<◌, sym, ap, ◌∙◌, subst, refl, rules, arith}
 use Rattle.agenda.specs.Waiting.{waiting}
 use Rattle.rules.specs.Board.{Board, hand}
 use Rattle.board_laws.specs.Jump.{NoneDue, later, tick_none}

@@ -1,11 +1,10 @@
-use Rattle.std.proofs.Common.{◌≡◌, ℕ, zero, suc, ◌+◌, ◌<◌, ◌≤◌, Bool, true, false, List, [], ◌∷◌, length, get_or, take, Ok, Result, refl, ap, ◌∙◌, subst, eqb, ltb, eq-eqb, le-ltb, length-take-le, arith}
+use Rattle.std.proofs.Common.{◌≡◌, ℕ, zero, suc, ◌+◌, ◌<◌, true, false, List, [], ◌∷◌, length, get_or, take, Ok, Result, refl, ap, ◌∙◌, subst, eqb, ltb, eq-eqb, le-ltb, length-take-le, arith}
 use Rattle.std.specs.Result.{OnOk}
 use Rattle.agenda.specs.Waiting.{waiting}
 use Rattle.rules.specs.Ascending.{insert}
 use Rattle.slots.specs.declared.fitted.Slot.{Slot}
 use Rattle.slots.specs.declared.fitted.Slot.TheVariants.{Zero, One, Two, Three}
 use Rattle.board.specs.Deadlines.{comes_before, at_tick, all_at}
-use Rattle.board.specs.declared.board.deadlines.Deadline.{Deadline}
 use Rattle.board.proofs.Called.{waiting_len}
 use Rattle.board.proofs.board.deadlines.Deadlines.new.Goals as goal
 

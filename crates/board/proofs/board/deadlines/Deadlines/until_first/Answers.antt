@@ -1,4 +1,4 @@
-use Rattle.std.proofs.Common.{◌+◌, ◌≤◌, arith}
+use Rattle.std.proofs.Common.{◌+◌, arith}
 use Rattle.agenda.specs.Waiting.{waiting}
 use Rattle.agenda.proofs.Leading.{held_leads}
 use Rattle.board.specs.Deadlines.{comes_before, in_order}
