@@ -1,4 +1,5 @@
-pub mod Order
 pub mod Bag
 pub mod Heaps
+pub mod Leading
+pub mod Order
 pub mod Sifts

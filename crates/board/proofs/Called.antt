@@ -1,7 +1,7 @@
 -- Steps that the proofs of the calls share.
 use Rattle.std.proofs.Common.{◌≡◌, ℕ, ◌-◌, ◌<◌, ◌≤◌, min, true, ◌&&◌, ltb, leb, List, length, drop, ap, ◌∙◌, subst, le-ltb, lt-ltb, le-leb, arith}
 use Rattle.agenda.specs.Nodes.{usable}
-use Rattle.agenda.specs.Waiting.{Kept}
+use Rattle.agenda.specs.Waiting.{waiting, Kept}
 use Rattle.agenda.specs.declared.Entry.{Ghosts}
 use Rattle.agenda.specs.declared.agenda.Agenda.{Agenda}
 use Rattle.std.proofs.lemmas.Bool.{and_from}
@@ -34,12 +34,14 @@ kept_both old mid new a b = record {
       subst (λ n. drop n new.nodes.now ≡ drop n mid.nodes.now) (ap (λ n. min 4096 n) a.number) b.unused ∙ a.unused;
 }
 
--- As many writes wait as nodes are taken, and no more than are usable.
+-- As many entries wait as nodes are taken, and no more than are usable.
+pub waiting_len : {E : Type 0} {entry : Ghosts E} (q : Agenda E entry) → (length (waiting entry.before q) ≡ q.len) × (q.len ≤ usable q.nodes.now)
+waiting_len {entry = e} q =
+    let few = sound_within e.before q.nodes.now q.len q.ready in
+    (length_held e.before q.nodes.now q.len (omega arith), few)
+
 pub pending_len : {F S0 S1 S2 S3 : Type 0} {slots : Fittings F} (states : F → States S0 S1 S2 S3) (b : B.Board F slots) → (length (view states b).pending ≡ b.queue.len) × (b.queue.len ≤ usable b.queue.nodes.now)
-pending_len states b =
-    let q = b.queue in
-    let few = sound_within precedes q.nodes.now q.len q.ready in
-    (length_held precedes q.nodes.now q.len (omega arith), few)
+pending_len states b = waiting_len b.queue
 
 pub few_pending : {F S0 S1 S2 S3 : Type 0} {slots : Fittings F} (states : F → States S0 S1 S2 S3) (b : B.Board F slots) → length (view states b).pending ≤ most_nodes
 few_pending states b = let all = pending_len states b in omega arith

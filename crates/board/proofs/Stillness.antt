@@ -1,10 +1,17 @@
--- What the announcements of the slots tell of the ticks ahead.
-use Rattle.std.proofs.Common.{◌≡◌, ℕ, zero, suc, ◌<◌, ◌≤◌, min, false, List, [], ◌∷◌, get_or, fold, Some, None, Option, refl, arith}
-use Rattle.std.specs.Option.{option_to_list}
-use Rattle.std.specs.List.{flat_map}
+-- What the deadlines tell of the ticks ahead.
+use Rattle.std.proofs.Common.{◌≡◌, ℕ, zero, suc, ◌+◌, ◌-◌, ◌<◌, ◌≤◌, Bool, true, false, cond, leb, List, [], ◌∷◌, get_or, Some, None, Option, refl, sym, ap, ◌∙◌, subst, inl, inr, le-leb, arith}
+use Rattle.std.proofs.lemmas.Bool.{cases_Bool, cases_eq, lt-leb}
+use Rattle.std.proofs.lemmas.Bool.Decides.{nat_tests}
+use Rattle.agenda.specs.Waiting.{first_of}
+use Rattle.agenda.proofs.Leading.{FirstLeads, NonePrecedes}
+use Rattle.rules.specs.Ascending.{insert}
 use Rattle.rules.specs.Device.{horizon}
 use Rattle.rules.specs.Board.{Fitting}
-use Rattle.slots.specs.Slots.{States, levels_of, Still, Foretold}
+use Rattle.rules.specs.TickLaws.{ticks_add}
+use Rattle.slots.specs.Slots.{States, slot_number, levels_of, ticked, Still, Foretold}
+use Rattle.slots.specs.declared.fitted.Slot.{Slot}
+use Rattle.board.specs.Deadlines.{comes_before, NoneBefore, at_tick, all_at, with_announced, Watched}
+use Rattle.board.specs.declared.board.deadlines.Deadline.{Deadline}
 
 -- Four levels that are the same one by one are the same.
 pub all_still : {S0 S1 S2 S3 : Type 0} (f : Fitting S0 S1 S2 S3) (s t : States S0 S1 S2 S3)
@@ -12,38 +19,120 @@ pub all_still : {S0 S1 S2 S3 : Type 0} (f : Fitting S0 S1 S2 S3) (s t : States S
 all_still f s t each =
     λ i. each 0 (omega arith) i ∷ each 1 (omega arith) i ∷ each 2 (omega arith) i ∷ each 3 (omega arith) i ∷ []
 
--- The nearest of `left` ticks and what is announced.
-abbrev pub nearest : ℕ → List (Option ℕ) → ℕ
-nearest left announced = fold min left (flat_map option_to_list announced)
+-- What lies before a tick, of one more deadline and of the others.
+none_of_insert : (n t : ℕ) (d : Deadline) (ds : List Deadline) → NoneBefore n t (insert comes_before d ds) → NoneBefore n t (d ∷ ds)
+unfolding insert
+none_of_insert n t d [] none = none
+none_of_insert n t d (x ∷ ds) none = elim (cases_Bool (comes_before x d)) [
+  | inl p ↦
+      let split : NoneBefore n t (x ∷ insert comes_before d ds) = rw p at none in
+      let rest = none_of_insert n t d ds split.1 in
+      (rest.0, (split.0, rest.1))
+  | inr p ↦ rw p at none
+]
 
-pub nearest_le-left : (left : ℕ) (announced : List (Option ℕ)) → nearest left announced ≤ left
-nearest_le-left left [] = omega arith
-nearest_le-left left (None ∷ os) = nearest_le-left left os
-nearest_le-left left (Some k ∷ os) = omega (arith, nearest_le-left (min left k) os)
+none_of_announced : (n t now : ℕ) (slot : Slot) (announced : Option ℕ) (ds : List Deadline) → NoneBefore n t (with_announced now slot announced ds) → NoneBefore n t ds
+none_of_announced n t now slot None ds none = none
+none_of_announced n t now slot (Some k) ds none = (none_of_insert n t (at_tick (now + k) slot) ds none).1
 
-nearest_le-each : (left : ℕ) (announced : List (Option ℕ)) (n k : ℕ) → get_or announced n None ≡ Some k → nearest left announced ≤ k
-nearest_le-each left [] n k e = cc
-nearest_le-each left (None ∷ os) zero k e = cc
-nearest_le-each left (None ∷ os) (suc n) k e = nearest_le-each left os n k e
-nearest_le-each left (Some j ∷ os) zero k e = let same : j ≡ k = cc in omega (arith, nearest_le-left (min left j) os)
-nearest_le-each left (Some j ∷ os) (suc n) k e = nearest_le-each (min left j) os n k e
+-- No deadline lies before the first one.
+none_precedes : (t : ℕ) (d : Deadline) (ds : List Deadline) → NonePrecedes comes_before d ds → t ≤ d.tick → (n : ℕ) → NoneBefore n t ds
+none_precedes t d [] none early n = tt
+none_precedes t d (x ∷ ds) none early n = ((λ _. tick_order x d t none.0 early), none_precedes t d ds none.1 early n)
+  where
+    tick_order : (x d : Deadline) (t : ℕ) → comes_before x d ≡ false → t ≤ d.tick → t ≤ x.tick
+    tick_order x d t later early = grind (arith, nat_tests)
 
-pub nearest_some : (left : ℕ) (announced : List (Option ℕ)) → 1 ≤ left → ((n k : ℕ) → get_or announced n None ≡ Some k → 1 ≤ k) → 1 ≤ nearest left announced
-nearest_some left [] some each = some
-nearest_some left (None ∷ os) some each = nearest_some left os some (λ n k e. each (suc n) k e)
-nearest_some left (Some j ∷ os) some each =
-    let first : 1 ≤ j = each 0 j refl in
-    nearest_some (min left j) os (omega arith) (λ n k e. each (suc n) k e)
+pub none_before_first : (t : ℕ) (ds : List Deadline) (d : Deadline) → FirstLeads comes_before ds → Some d ≡ first_of ds → t ≤ d.tick → (n : ℕ) → NoneBefore n t ds
+none_before_first t [] d leads is early n = tt
+none_before_first t (x ∷ ds) d leads is early n = let same : d ≡ x = cc in let at : t ≤ x.tick = subst (λ y. t ≤ y.tick) same early in ((λ _. at), none_precedes t x ds leads at n)
 
-module _ {S0 S1 S2 S3 : Type 0} (f : Fitting S0 S1 S2 S3) (s : States S0 S1 S2 S3) where
-  pub foretold_some : (n k : ℕ) (o : Option ℕ) → o ≡ Some k → Foretold f n o s → 1 ≤ k
-  foretold_some n k None e told = cc
-  foretold_some n k (Some j) e told = let same : j ≡ k = cc in omega (arith, told.0)
+-- The first is not before what none is before.
+pub first_ahead : (t : ℕ) (ds : List Deadline) (d : Deadline) → ((n : ℕ) → NoneBefore n t ds) → Some d ≡ first_of ds → t ≤ d.tick
+first_ahead t [] d none is = cc
+first_ahead t (x ∷ ds) d none is = let same : x ≡ d = cc in subst (λ y. t ≤ y.tick) same ((none (slot_number x.slot)).0 refl)
 
-  -- No level changes before the nearest of them.
-  pub foretold_nearest : (left : ℕ) (announced : List (Option ℕ)) (n : ℕ) → left ≤ horizon → Foretold f n (get_or announced n None) s → Still f n (nearest left announced) s
-  foretold_nearest left announced n near told = go (get_or announced n None) refl told
+none_of_all : (n t tick : ℕ) → n < 4 → NoneBefore n t (all_at tick) → t ≤ tick
+none_of_all zero t tick few none = none.0 refl
+none_of_all (suc zero) t tick few none = none.1.0 refl
+none_of_all (suc (suc zero)) t tick few none = none.1.1.0 refl
+none_of_all (suc (suc (suc zero))) t tick few none = none.1.1.1.0 refl
+none_of_all (suc (suc (suc (suc n)))) t tick few none = absurd (omega arith)
+
+-- How many deadlines have come.
+abbrev pub come : ℕ → List Deadline → ℕ
+come now [] = 0
+come now (d ∷ ds) = cond (leb d.tick now) 1 0 + come now ds
+
+come_insert : (now : ℕ) (d : Deadline) (ds : List Deadline) → come now (insert comes_before d ds) ≡ come now (d ∷ ds)
+unfolding insert
+come_insert now d [] = refl
+come_insert now d (x ∷ ds) = either (insert comes_before d ds) (come_insert now d ds) (comes_before x d)
+  where
+    either : (rest : List Deadline) → come now rest ≡ come now (d ∷ ds) → (b : Bool) → come now (cond b (x ∷ rest) (d ∷ x ∷ ds)) ≡ come now (d ∷ x ∷ ds)
+    either rest more true = omega (arith, more)
+    either rest more false = refl
+
+module _ {S0 S1 S2 S3 : Type 0} (f : Fitting S0 S1 S2 S3) where
+  -- A slot that has announced has no deadline that has come.
+  come_announced : (now n : ℕ) (slot : Slot) (announced : Option ℕ) (ds : List Deadline) (s : States S0 S1 S2 S3) → Foretold f n announced s
+      → come now (with_announced now slot announced ds) ≡ come now ds
+  come_announced now n slot None ds s told = refl
+  come_announced now n slot (Some k) ds s told =
+      let ahead : leb (now + k) now ≡ false = lt-leb (now + k) now (omega (arith, told.0)) in
+      let none : ◌≡◌ {A = ℕ} (cond (leb (now + k) now) 1 0) 0 = rw ahead in
+      omega (arith, none, come_insert now (at_tick (now + k) slot) ds)
+
+  pub renewed_fewer : (now : ℕ) (d : Deadline) (announced : Option ℕ) (old ds new : List Deadline) (s : States S0 S1 S2 S3) → d.tick ≤ now → Foretold f (slot_number d.slot) announced s
+      → old ≡ d ∷ ds → new ≡ with_announced now d.slot announced ds → come now new < come now old
+  renewed_fewer now d announced old ds new s due told was is =
+      let one : ◌≡◌ {A = ℕ} (cond (leb d.tick now) 1 0) 1 = rw (le-leb d.tick now due) in
+      omega (arith, one, ap (come now) was, ap (come now) is, come_announced now (slot_number d.slot) d.slot announced ds s told)
+
+  still_less : (n k m : ℕ) (s : States S0 S1 S2 S3) → k ≤ m → Still f n m s → Still f n k s
+  still_less n k m s fewer still = λ j early. still j (omega arith)
+
+  -- The slot that has announced is watched, and the others are as before.
+  announced_watched : (now ahead : ℕ) (slot : Slot) (announced : Option ℕ) (ds : List Deadline) (s : States S0 S1 S2 S3) → ahead ≤ horizon → Foretold f (slot_number slot) announced s
+      → Watched f (slot_number slot) ahead now (with_announced now slot announced ds) s
+  announced_watched now ahead slot None ds s near told = λ k within none. still_less (slot_number slot) k (horizon + 1) s (omega arith) told
+  announced_watched now ahead slot (Some a) ds s near told = λ k within none.
+      let before : now + k ≤ now + a = (none_of_insert (slot_number slot) (now + k) (at_tick (now + a) slot) ds none).0 refl in
+      still_less (slot_number slot) k a s (omega arith) told.2
+
+  pub renewed_watched : (n ahead now : ℕ) (d : Deadline) (announced : Option ℕ) (old ds new : List Deadline) (s : States S0 S1 S2 S3) → ahead ≤ horizon → Foretold f (slot_number d.slot) announced s
+      → old ≡ d ∷ ds → new ≡ with_announced now d.slot announced ds → Watched f n ahead now old s → Watched f n ahead now new s
+  renewed_watched n ahead now d announced old ds new s near told was is watched = subst (λ l. Watched f n ahead now l s) (sym is) (elim (cases_eq n (slot_number d.slot)) [
+    | inl same ↦ subst (λ m. Watched f m ahead now (with_announced now d.slot announced ds) s) (sym same) (announced_watched now ahead d.slot announced ds s near told)
+    | inr other ↦ others other
+  ])
     where
-      go : (o : Option ℕ) → get_or announced n None ≡ o → Foretold f n o s → Still f n (nearest left announced) s
-      go None e told = λ j early. told j (omega (arith, nearest_le-left left announced))
-      go (Some k) e told = λ j early. told.2 j (omega (arith, nearest_le-each left announced n k e))
+      others : (n ≡ slot_number d.slot → ⊥) → Watched f n ahead now (with_announced now d.slot announced ds) s
+      others other = λ k within none.
+          let before : NoneBefore n (now + k) (d ∷ ds) = ((λ same. absurd (other (sym same))), none_of_announced n (now + k) now d.slot announced ds none) in
+          watched k within (subst (NoneBefore n (now + k)) (sym was) before)
+
+  -- Where every slot is due now, nothing has to be known of one.
+  pub due_watched : (n ahead now : ℕ) (s : States S0 S1 S2 S3) → n < 4 → Watched f n ahead now (all_at now) s
+  due_watched n ahead now s few = λ k within none j early. let at : now + k ≤ now = none_of_all n (now + k) now few none in absurd (omega arith)
+
+  ticked_add : (k j : ℕ) (s : States S0 S1 S2 S3) → ticked f (k + j) s ≡ ticked f j (ticked f k s)
+  ticked_add k j s = λ i. record {
+    slot_0 = ticks_add f.kind_0 k j s.slot_0 i;
+    slot_1 = ticks_add f.kind_1 k j s.slot_1 i;
+    slot_2 = ticks_add f.kind_2 k j s.slot_2 i;
+    slot_3 = ticks_add f.kind_3 k j s.slot_3 i;
+  }
+
+  still_later : (n k m : ℕ) (s : States S0 S1 S2 S3) → Still f n (k + m) s → Still f n m (ticked f k s)
+  still_later n k m s still = λ j early.
+      sym (ap (λ t. get_or (levels_of f t) n false) (ticked_add k j s)) ∙ still (k + j) (omega arith) ∙ sym (still k (omega arith))
+
+  -- Slots that were only ticked are watched as before, if there are ticks left.
+  pub later_watched : (n k ahead now : ℕ) (ds : List Deadline) (s t : States S0 S1 S2 S3) → k ≤ ahead → (k < ahead → t ≡ ticked f k s)
+      → Watched f n ahead now ds s → Watched f n (ahead - k) (now + k) ds t
+  later_watched n k ahead now ds s t within moved watched = λ m less none j early.
+      let from : t ≡ ticked f k s = moved (omega arith) in
+      let free : NoneBefore n (now + (k + m)) ds = subst (λ x. NoneBefore n x ds) (omega arith) none in
+      let still : Still f n m t = subst (Still f n m) (sym from) (still_later n k m s (watched (k + m) (omega arith) free)) in
+      still j early

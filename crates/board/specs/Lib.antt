@@ -1,4 +1,5 @@
 pub mod Answers
+pub mod Deadlines
 pub mod Placing
 pub mod Steps
 pub mod View

@@ -1,7 +1,8 @@
 -- What the steps of an advance do, by the tick board.
-use Rattle.std.specs.Prelude.{◌≡◌, ℕ, ◌+◌, ◌*◌, ◌<◌, ◌≤◌, length, Some, None, Option}
+use Rattle.std.specs.Prelude.{◌≡◌, ℕ, ◌+◌, ◌-◌, ◌*◌, ◌<◌, ◌≤◌, min, cond, List, [], ◌∷◌, length, Some, None, Option, nat_lt}
 use Rattle.agenda.specs.Waiting.{Kept}
 use Rattle.rules.specs.Board as rules
+use Rattle.rules.specs.declared.queued.QueuedWrite.{QueuedWrite}
 use Rattle.board_laws.specs.Jump.{counted, arrival}
 use Rattle.slots.specs.Slots.{States}
 use Rattle.slots.specs.declared.fitted.Slots.{Ghosts}
@@ -43,3 +44,8 @@ module _ {F S0 S1 S2 S3 : Type 0} {slots : Ghosts F} (states : F → States S0 S
 
   abbrev pub Runs : ℕ → ℕ → Board F slots → Board F slots → Type 0
   Runs n = Progress (ticking f n) (nothing f) n
+
+-- How far it is to the first pending write, at most `left` ticks. One that is not ahead does not count.
+abbrev pub to_write : ℕ → ℕ → List QueuedWrite → ℕ
+to_write time left [] = left
+to_write time left (w ∷ ws) = cond (nat_lt time w.tick) (min left (w.tick - time)) left

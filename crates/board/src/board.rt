@@ -11,6 +11,7 @@ use slots::Slots;
 
 mod advance;
 mod calls;
+mod deadlines;
 mod handing;
 
 // Time ends here, after 2^48 ticks.

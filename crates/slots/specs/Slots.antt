@@ -5,6 +5,7 @@ use Rattle.rules.specs.Board as rules
 use Rattle.i8259.specs.Views.{offset}
 use Rattle.slots.specs.declared.fitted.Target.{Target}
 use Rattle.i8259.specs.declared.pair.Which.TheVariants.{Master, Slave}
+use Rattle.slots.specs.declared.fitted.Slot as one_of
 use Rattle.slots.specs.declared.fitted.Slot.TheVariants.{Zero, One, Two, Three}
 use Rattle.slots.specs.declared.fitted.Target.TheVariants.{Chip, Slot, OpenBus}
 
@@ -14,6 +15,13 @@ pub record States (S0 S1 S2 S3 : Type 0) : Type 0 where
   pub slot_1 : S1
   pub slot_2 : S2
   pub slot_3 : S3
+
+-- The number of a slot.
+abbrev pub slot_number : one_of.Slot → ℕ
+slot_number Zero = 0
+slot_number One = 1
+slot_number Two = 2
+slot_number Three = 3
 
 -- What a port reaches, as the rules say it.
 abbrev pub target_of : Target → rules.Target

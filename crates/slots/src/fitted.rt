@@ -1,8 +1,8 @@
 // The four device slots, and what a port reaches.
-ghost use Rattle.std.specs.Prelude.{◌≡◌, ℕ, min, None, Option, slice_index_or};
+ghost use Rattle.std.specs.Prelude.{◌≡◌, min};
 ghost use Rattle.rules.specs.Device.{horizon};
 ghost use Rattle.rules.specs.Board as rules;
-ghost use Rattle.slots.specs.Slots.{States, target_of, levels_of, ticked, slot_byte, slots_after_read, slots_after_write, Foretold};
+ghost use Rattle.slots.specs.Slots.{States, slot_number, target_of, levels_of, ticked, slot_byte, slots_after_read, slots_after_write, Foretold};
 ghost use Rattle.slots.specs.Offsets.{offset_from, chip_offset_from};
 
 use device::{Device, NO_BYTE};
@@ -21,12 +21,16 @@ const FIRST_PORT_2: u16 = 0x3F8;
 const FIRST_PORT_3: u16 = 0x2F8;
 
 // One of the four slots.
-#[derive(Clone, Copy, Debug, PartialEq, Eq)]
+#[derive(Clone, Copy, Debug, PartialEq, Eq, PartialOrd, Ord)]
 pub enum Slot {
     Zero,
     One,
     Two,
     Three,
+}
+
+impl Slot {
+    pub const ALL: [Slot; 4] = [Slot::Zero, Slot::One, Slot::Two, Slot::Three];
 }
 
 // What a port belongs to, with the offset there.
@@ -62,9 +66,9 @@ pub trait Slots {
     fn skip(&mut self, n: u64)
         ensures { states self.new ≡ ticked fitting (min n horizon) (states self.old) };
 
-    // For how many ticks each slot's level stays for sure.
-    fn announcements(&self) -> [Option<u64>; 4]
-        ensures { (slot : ℕ) → Foretold fitting slot (slice_index_or result slot None) (states self.now) };
+    // For how many ticks the slot's level stays for sure.
+    fn announce(&self, slot: Slot) -> Option<u64>
+        ensures { Foretold fitting (slot_number slot) result (states self.now) };
 
     // The byte that the target's slot gives; FFh where the target is no slot.
     fn read(&mut self, target: Target) -> u8
@@ -149,13 +153,13 @@ impl<D0: Device, D1: Device, D2: Device, D3: Device> Slots for Fitted<D0, D1, D2
         self.slot_3.skip(n);
     }
 
-    fn announcements(&self) -> [Option<u64>; 4] {
-        [
-            self.slot_0.announce(),
-            self.slot_1.announce(),
-            self.slot_2.announce(),
-            self.slot_3.announce(),
-        ]
+    fn announce(&self, slot: Slot) -> Option<u64> {
+        match slot {
+            Slot::Zero => self.slot_0.announce(),
+            Slot::One => self.slot_1.announce(),
+            Slot::Two => self.slot_2.announce(),
+            Slot::Three => self.slot_3.announce(),
+        }
     }
 
     fn read(&mut self, target: Target) -> u8 {

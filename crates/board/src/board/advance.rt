@@ -1,12 +1,13 @@
 // The passing of time: jumps to the ticks on which something may happen.
-ghost use Rattle.std.specs.Prelude.{◌+◌, ◌-◌, ◌^◌, ◌<◌, ◌≤◌};
+ghost use Rattle.std.specs.Prelude.{◌≡◌, ◌+◌, ◌-◌, ◌^◌, ◌<◌, ◌≤◌};
 ghost use Rattle.rules.specs.Device.{horizon};
 ghost use Rattle.rules.specs.Board as rules;
-ghost use Rattle.board_laws.specs.Jump.{Quiet, Idle};
-ghost use Rattle.board.specs.Steps.{CarriesNext, CarriesOut, Arrives, Runs};
+ghost use Rattle.board_laws.specs.Jump.{Idle};
+ghost use Rattle.board.specs.Steps.{CarriesNext, CarriesOut, Arrives, Runs, to_write};
 ghost use Rattle.board.specs.Answers.{of_advance};
 ghost use Rattle.board.specs.View.{view, Does};
 
+use super::deadlines::{Deadline, Deadlines};
 use super::{Board, END_OF_TIME};
 use device::HORIZON;
 use rules::Refusal;
@@ -47,7 +48,7 @@ impl<'a, F: Slots> Board<'a, F> {
         edges + self.carry_out()
     }
 
-    // The strides below are plain numbers, 1 to 2^32: a type of its own would stand in the way of each minimum and difference.
+    // Strides and stretches are plain numbers, 1 to 2^32: a type of its own would stand in the way of each minimum and difference.
 
     // How far time may jump without passing a pending write: at most `left` ticks.
     fn until_write(&self, left: u64) -> u64
@@ -55,6 +56,7 @@ impl<'a, F: Slots> Board<'a, F> {
         ensures some { 1 ≤ result }
         ensures most { result ≤ left }
         ensures idle { Idle F.fitting (result - 1) (view F.states self.now) }
+        ensures nearest { result ≡ to_write (view F.states self.now).time left (view F.states self.now).pending }
     {
         match self.queue.first() {
             Some(write) if self.time < write.tick => left.min(write.tick - self.time),
@@ -62,22 +64,27 @@ impl<'a, F: Slots> Board<'a, F> {
         }
     }
 
-    // How far time may jump without passing a change of a level: at most `left` ticks.
-    fn until_change(&self, left: u64) -> u64
-        requires { (1 ≤ left) × (left ≤ horizon) }
-        ensures some { 1 ≤ result }
-        ensures most { result ≤ left }
-        ensures quiet { Quiet F.fitting (result - 1) (view F.states self.now) }
+    // Lets ticks pass of which no write is due before the last, from deadline to deadline, and answers their edges.
+    fn run_stretch(&mut self, ticks: u64) -> u64
+        requires near { ticks ≤ horizon }
+        requires time { self.old.time + ticks < 2 ^ 62 }
+        requires idle { Idle F.fitting (ticks - 1) (view F.states self.old) }
+        ensures { Runs F.states F.fitting ticks result self.old self.new }
     {
-        self.ports
-            .slots
-            .announcements()
-            .into_iter()
-            .flatten()
-            .fold(left, u64::min)
+        let mut nodes = [Deadline::UNUSED; 4];
+        let mut deadlines = Deadlines::new(&mut nodes, self.time);
+        let mut left = ticks;
+        let mut edges = 0;
+        while left > 0 {
+            deadlines.renew(&self.ports.slots, self.time);
+            let stride = deadlines.until_first(self.time, left);
+            edges += self.arrive(stride);
+            left -= stride;
+        }
+        edges
     }
 
-    // Lets the ticks pass, from event to event, and answers their edges. No range counts the strides, since each depends on what the
+    // Lets the ticks pass, from write to write, and answers their edges. No range counts the stretches, since each depends on what the
     // one before it did.
     fn run(&mut self, ticks: u64) -> u64
         requires near { ticks ≤ horizon }
@@ -87,9 +94,9 @@ impl<'a, F: Slots> Board<'a, F> {
         let mut left = ticks;
         let mut edges = 0;
         while left > 0 {
-            let stride = self.until_change(self.until_write(left));
-            edges += self.arrive(stride);
-            left -= stride;
+            let stretch = self.until_write(left);
+            edges += self.run_stretch(stretch);
+            left -= stretch;
         }
         edges
     }

@@ -1,0 +1,104 @@
+// The deadlines of the slots, by which time jumps.
+ghost use Rattle.std.specs.Prelude.{◌≡◌, ℕ, ◌+◌, ◌^◌, ◌<◌, ◌≤◌, Option, IsSome};
+ghost use Rattle.agenda.specs.Nodes.{usable};
+ghost use Rattle.agenda.specs.Waiting.{waiting};
+ghost use Rattle.rules.specs.Device.{horizon};
+ghost use Rattle.slots.specs.Slots.{slot_number, Foretold};
+ghost use Rattle.board.specs.Deadlines.{comes_before, in_order, NoneBefore, to_first, all_at, with_announced, TakesDue, Watched};
+
+use agenda::{Agenda, Entry};
+use slots::{Slot, Slots};
+
+// A slot's level stays on the ticks before its deadline. Deadlines wait by tick, and then by slot.
+#[derive(Clone, Copy, Debug, PartialEq, Eq, PartialOrd, Ord)]
+pub(super) struct Deadline {
+    tick: u64,
+    slot: Slot,
+}
+
+impl Deadline {
+    // What a node holds until it is used.
+    pub(super) const UNUSED: Deadline = Deadline {
+        tick: 0,
+        slot: Slot::Zero,
+    };
+}
+
+impl Entry for Deadline {
+    ghost before = { comes_before };
+
+    ghost order = { in_order };
+
+    fn precedes(self, other: Deadline) -> bool {
+        self < other
+    }
+}
+
+// At most one deadline for each slot, in nodes that an advance lends. The level of a slot that has none stays for as long as an
+// advance can take.
+#[derive(Drop)]
+pub(super) struct Deadlines<'n> {
+    agenda: Agenda<'n, Deadline>,
+}
+
+impl<'n> Deadlines<'n> {
+    // Every slot is due now, and so announces before time passes.
+    pub(super) fn new(nodes: &'n mut [Deadline; 4], now: u64) -> Deadlines<'n>
+        ensures { waiting comes_before result.agenda ≡ all_at now }
+    {
+        let mut agenda = Agenda::new(nodes);
+        for slot in Slot::ALL {
+            agenda.insert(Deadline { tick: now, slot }).unwrap();
+        }
+        Deadlines { agenda }
+    }
+
+    // Has each slot whose deadline has come announce again.
+    pub(super) fn renew<F: Slots>(&mut self, slots: &F, now: u64)
+        requires time { now < 2 ^ 62 }
+        ensures ahead { (n : ℕ) → NoneBefore n (now + 1) (waiting comes_before self.new.agenda) }
+        ensures watched { (n ahead : ℕ) → ahead ≤ horizon → Watched F.fitting n ahead now (waiting comes_before self.old.agenda) (F.states slots.now) → Watched F.fitting n ahead now (waiting comes_before self.new.agenda) (F.states slots.now) }
+    {
+        while let Some(deadline) = self.take_due(now) {
+            self.announce(slots, deadline.slot, now);
+        }
+    }
+
+    // Takes out the first deadline, if it has come.
+    fn take_due(&mut self, now: u64) -> Option<Deadline>
+        ensures taken { TakesDue now result (waiting comes_before self.old.agenda) (waiting comes_before self.new.agenda) }
+        ensures room { IsSome result → self.new.agenda.len < usable self.new.agenda.nodes.now }
+    {
+        match self.agenda.first() {
+            Some(deadline) if deadline.tick <= now => self.agenda.take(),
+            _ => None,
+        }
+    }
+
+    // Has a slot announce: it gets a deadline, unless its level stays for longer than an advance can take.
+    fn announce<F: Slots>(&mut self, slots: &F, slot: Slot, now: u64)
+        requires time { now < 2 ^ 62 }
+        requires room { self.old.agenda.len < usable self.old.agenda.nodes.now }
+        ensures { (announced : Option ℕ) × Foretold F.fitting (slot_number slot) announced (F.states slots.now) × (waiting comes_before self.new.agenda ≡ with_announced now slot announced (waiting comes_before self.old.agenda)) }
+    {
+        if let Some(ticks) = slots.announce(slot) {
+            let tick = now + ticks;
+            self.agenda.insert(Deadline { tick, slot }).unwrap();
+        }
+    }
+
+    // How far time may jump without passing a deadline: at most `left` ticks.
+    pub(super) fn until_first(&self, now: u64, left: u64) -> u64
+        requires some { 1 ≤ left }
+        requires ahead { (n : ℕ) → NoneBefore n (now + 1) (waiting comes_before self.now.agenda) }
+        ensures some { 1 ≤ result }
+        ensures most { result ≤ left }
+        ensures none { (n : ℕ) → NoneBefore n (now + result) (waiting comes_before self.now.agenda) }
+        ensures nearest { result ≡ to_first now left (waiting comes_before self.now.agenda) }
+    {
+        match self.agenda.first() {
+            Some(deadline) => left.min(deadline.tick - now),
+            None => left,
+        }
+    }
+}
