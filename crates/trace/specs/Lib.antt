@@ -1,6 +1,5 @@
 pub mod Performing
 pub mod Running
-pub mod Notes
 pub use Rattle.records.specs.Records
 pub use Rattle.records.specs.Reading
 pub use Rattle.records.specs.Encoding

@@ -2,11 +2,9 @@
 #![tactic(auto)]
 
 pub mod machine;
-pub mod notes;
 pub mod run;
 
 pub use lines::{Line, Output, Refused};
 pub use machine::{Elapsed, Machine};
-pub use notes::{is_only_notes, run_notes};
 pub use records::{LONGEST_TRACE, Reader, Record, encoding_reads_back};
 pub use run::run_trace;

@@ -4,17 +4,18 @@
 #[cfg(test)]
 mod tests {
     use rules::{QueuedWrite, Refusal};
+    use standard::run_standard;
     use std::alloc::Global;
     use std::iter::repeat_n;
     use std::process::Abort;
     use std::test::Fail;
-    use trace::{LONGEST_TRACE, Line, Output, Reader, Record, Refused, run_notes};
+    use trace::{LONGEST_TRACE, Line, Output, Reader, Record, Refused};
 
     // Three notes, one of them empty. Their length fields start at 1, 6 and 9.
     const NOTES: [u8; 13] = *b"\x01\x00\x03\x06ab\x00\x01\x06\x00\x02\x06c";
 
     // Holds a run with so much room to the lines that it must print. `shows` does so for one line; a closure for what fills
-    // the buffer would be no plainer, since a run can need a board and a line cannot.
+    // the buffer would be no plainer.
     fn prints(
         rt: &impl Abort,
         heap: Global,
@@ -23,7 +24,7 @@ mod tests {
         want: &[u8],
     ) -> Result<(), Fail> {
         let mut out = vec![in heap; 0u8; room]?;
-        let printed = run_notes(trace, &mut out).ok_or("a record needs a board")?;
+        let printed = run_standard(trace, &mut out);
         out.truncate(printed);
         assert!(rt; out.as_slice() == want);
         Ok(())
@@ -223,10 +224,10 @@ mod tests {
     }
 
     #[test]
-    fn leaves_boards_alone(rt: HostRuntime) -> Result<(), Fail> {
-        let mut out = [7u8; 4];
-        assert!(rt; run_notes(b"\x01\x00\x01\x06\x00\x01\x04", &mut out).is_none());
-        assert!(rt; out == [7u8; 4]);
+    fn leaves_what_lies_behind(rt: HostRuntime) -> Result<(), Fail> {
+        let mut out = [7u8; 6];
+        assert_eq!(rt; run_standard(b"\x01", &mut out), 4);
+        assert!(rt; out == *b". 0\n\x07\x07");
         // A record behind the first fault is not reached.
         prints(
             &rt,
