@@ -42,8 +42,8 @@ fn perform<'a, M: Machine>(machine: &mut M, record: Record<'a>) -> Result<Line<'
 }
 
 // Carries out what is left of a trace, and prints each record's line. The answer is how many records there were, or the
-// refusal that ends the run. The place is taken before each record is read, so this is no `for`; the room is looked at before
-// what was read.
+// refusal that ends the run. A record's place is taken before it is read, so this is no `while let`. The room comes before what
+// the record itself is refused for.
 fn run_records<M: Machine>(
     machine: &mut M,
     mut reader: Reader<'_>,
