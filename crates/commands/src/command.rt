@@ -1,5 +1,5 @@
 // The commands of the console, and why a line is none.
-ghost use Rattle.std.specs.Prelude.{◌≡◌, false, slice_index};
+ghost use Rattle.std.specs.Prelude.{◌≡◌, ◌≤◌, false, length, slice_index};
 ghost use Rattle.std.specs.Char.{is_ascii_digit};
 ghost use Rattle.commands.specs.Reasons.{reason_of};
 
@@ -44,9 +44,10 @@ pub enum Unreadable {
 }
 
 impl Unreadable {
-    // In words. No text starts with a digit, by which it is told from a refusal's number.
+    // In at most 16 bytes. No text starts with a digit, by which it is told from a refusal's number.
     pub fn reason(self) -> &'static str
         ensures text { result.now ≡ reason_of self }
+        ensures short { length result.now ≤ 16 }
         ensures no_digit { is_ascii_digit (slice_index result.now 0) ≡ false }
     {
         match self {
