@@ -1,12 +1,14 @@
 // The calls that take no time.
 ghost use Rattle.std.specs.Prelude.{◌≡◌, length};
 ghost use Rattle.rules.specs.Board as rules;
+ghost use Rattle.i8259.specs.Views.{chip_of};
 ghost use Rattle.board.specs.View.{view, Does};
 ghost use Rattle.board.specs.Answers.{of_queue};
 
 use super::handing::Ports;
 use super::{Board, END_OF_TIME};
 use agenda::Agenda;
+use i8259::{Chip, Which};
 use rules::{QueuedWrite, Refusal};
 use slots::Slots;
 
@@ -28,6 +30,20 @@ impl<'a, F: Slots> Board<'a, F> {
         ensures { result ≡ (view F.states self.now).time }
     {
         self.time
+    }
+
+    // How many queued writes are pending.
+    pub fn pending(&self) -> usize
+        ensures { result ≡ length (view F.states self.now).pending }
+    {
+        self.queue.length()
+    }
+
+    // A copy of one of the interrupt controllers.
+    pub fn chip(&self, which: Which) -> Chip
+        ensures { result ≡ chip_of which (view F.states self.now).pair }
+    {
+        self.ports.pair.chip(which)
     }
 
     pub fn read(&mut self, port: u16) -> u8
