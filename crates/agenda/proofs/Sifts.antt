@@ -6,6 +6,7 @@ use Rattle.std.proofs.lemmas.Bool.{cases_eq, cases_lt}
 use Rattle.std.proofs.lemmas.List.{take_more_set, get_or_read}
 use Rattle.agenda.specs.Nodes.{held, no_earlier, heaped, Earliest}
 use Rattle.agenda.specs.Order.{IsStrictTotalOrder}
+use mir.Val.{bool_byte}
 use Rattle.agenda.proofs.Order.{one_way, chain}
 use Rattle.agenda.proofs.Bag.{ascending_push, ascending_move}
 use Rattle.agenda.proofs.Heaps.{Heap, told, tells, heap_of, heaped_of, heap_shorter}
@@ -58,6 +59,11 @@ module _ {E : Type 0} {before : E → E → Bool} (o : IsStrictTotalOrder before
 
   pub right_first : (xs : List E) (i r k : ℕ) (x y : E) → r < length xs → r ≡ i * 2 + 1 + 1 → x ≡ get_or xs r x → y ≡ get_or xs (i * 2 + 1) y → before x y ≡ true → i * 2 + 1 ≤ k → k ≤ i * 2 + 2 → no_earlier before xs k r ≡ true
   right_first xs i r k x y long right is_x is_y h a b = of_two xs i r (i * 2 + 1) k x y long (omega arith) is_x is_y (one_way o h) a b (omega arith) (omega arith) (omega arith)
+
+  -- the number of the child that comes first, where there are two
+  pub first_of_two : (xs : List E) (i k : ℕ) (x y : E) (right : Bool) → i * 2 + 1 + 1 < length xs → x ≡ get_or xs (i * 2 + 1 + 1) x → y ≡ get_or xs (i * 2 + 1) y → before x y ≡ right → i * 2 + 1 ≤ k → k ≤ i * 2 + 2 → no_earlier before xs k (i * 2 + 1 + bool_byte right) ≡ true
+  first_of_two xs i k x y true long is_x is_y h a b = right_first xs i (i * 2 + 1 + 1) k x y long refl is_x is_y h a b
+  first_of_two xs i k x y false long is_x is_y h a b = subst (λ c. no_earlier before xs k c ≡ true) (omega arith) (left_first xs i (i * 2 + 1 + 1) k x y long refl is_x is_y h a b)
 
   -- an entry moves from node j to node i, and v is to follow at j: what is held stays
   held_move : (xs : List E) (i j n : ℕ) (v w d : E) → i < n → j < n → n ≤ length xs → w ≡ get_or xs j d → held before (set (set xs i w) j v) n ≡ held before (set xs i v) n

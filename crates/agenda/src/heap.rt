@@ -57,9 +57,7 @@ fn earliest_child<E: Entry>(nodes: &[E], at: usize) -> usize
 {
     let left = at * 2 + 1;
     let right = left + 1;
-    if right < nodes.len() && nodes[right].precedes(nodes[left]) {
-        right
-    } else {
-        left
-    }
+    // No branch: which of two children comes first is as good as random, and a processor would guess it wrong half of the time.
+    let right_first = right < nodes.len() && nodes[right].precedes(nodes[left]);
+    left + usize::from(right_first)
 }

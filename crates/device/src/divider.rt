@@ -24,7 +24,12 @@ fn quotient_and_remainder(dividend: u64, divisor: u64) -> (u64, u64)
     ensures whole { result.0 * divisor + result.1 ≡ dividend }
     ensures below { result.1 < divisor }
 {
-    (dividend / divisor, dividend % divisor)
+    // Most boards advance by few ticks at a time, and then there is nothing to divide.
+    if dividend < divisor {
+        (0, dividend)
+    } else {
+        (dividend / divisor, dividend % divisor)
+    }
 }
 
 impl<D: Device> Divider<D> {
@@ -69,7 +74,9 @@ impl<D: Device> Device for Divider<D> {
     fn skip(&mut self, n: u64) {
         let n = n.min(HORIZON);
         let (inner_ticks, phase) = quotient_and_remainder(self.phase + n, self.factor);
-        self.inner.skip(inner_ticks);
+        if 0 < inner_ticks {
+            self.inner.skip(inner_ticks);
+        }
         self.phase = phase;
     }
 

@@ -133,7 +133,7 @@ impl Channel {
         ensures { view_channel self.new ≡ ticks channel n (view_channel self.old) }
     {
         if !self.is_held() {
-            self.counter = self.counter.after(n);
+            self.counter.pass(n);
         }
     }
 

@@ -12,6 +12,14 @@ pub fn less(k: u64, value: u16) -> u16
     value.wrapping_sub(bits_of(k))
 }
 
+// What is left of n after whole periods. Time mostly jumps to the end of a period or half and not past the next, and then this does not divide.
+pub fn past_whole(period: u64, n: u64) -> u64
+    requires { 1 ≤ period }
+    ensures { result ≡ n % period }
+{
+    if n < period { n } else { n % period }
+}
+
 // How many ticks a counter with this value takes to come to 0, which is also what a written count means in mode 0.
 pub fn ticks_to_zero(value: u16) -> u64
     ensures meant { result ≡ count_meant mode_0 value }

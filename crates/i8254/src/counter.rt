@@ -92,16 +92,16 @@ impl Counter {
         matches!(self, Counter::TerminalCount(_))
     }
 
-    // n ticks later.
-    pub fn after(self, n: u64) -> Counter
-        ensures { view_counter result ≡ ticks counting n (view_counter self) }
+    // n ticks pass. Each mode's counter changes in its place, so that a tick does not move the whole enum.
+    pub fn pass(&mut self, n: u64)
+        ensures { view_counter self.new ≡ ticks counting n (view_counter self.old) }
     {
         match self {
-            Counter::TerminalCount(counter) => Counter::TerminalCount(counter.after(n)),
-            Counter::Still(_) => self,
-            Counter::Starting(counter) => counter.after(n),
-            Counter::Rate(counter) => Counter::Rate(counter.after(n)),
-            Counter::Square(counter) => Counter::Square(counter.after(n)),
+            Counter::TerminalCount(counter) => *counter = counter.after(n),
+            Counter::Still(_) => {}
+            Counter::Starting(counter) => *self = counter.after(n),
+            Counter::Rate(counter) => *counter = counter.after(n),
+            Counter::Square(counter) => *counter = counter.after(n),
         }
     }
 

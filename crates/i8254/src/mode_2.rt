@@ -6,7 +6,7 @@ ghost use Rattle.i8254_laws.specs.Counters.{mode_2_counter};
 ghost use Rattle.i8254_laws.specs.Machines.{counting};
 ghost use Rattle.i8254.specs.Views.{view_rate};
 
-use crate::count::{Period, ticks_to_zero};
+use crate::count::{Period, past_whole, ticks_to_zero};
 use device::bits_of;
 
 // OUT is low while the counter is at 1.
@@ -55,7 +55,7 @@ impl Rate {
         let value = if n < to_load {
             bits_of(to_load - n)
         } else {
-            bits_of(period - (n - to_load) % period)
+            bits_of(period - past_whole(period, n - to_load))
         };
         Self { value, ..self }
     }

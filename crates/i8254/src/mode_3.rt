@@ -6,7 +6,7 @@ ghost use Rattle.i8254_laws.specs.Machines.{counting};
 ghost use Rattle.i8254_laws.specs.Mode3.{begun, part_of_half};
 ghost use Rattle.i8254.specs.Views.{view_square};
 
-use crate::count::{Period, less};
+use crate::count::{Period, less, past_whole};
 use device::bits_of;
 
 // After the present half, high or low, has had its ticks, the other one begins.
@@ -40,7 +40,7 @@ impl Square {
         ensures { view_square result ≡ ticks counting n (begun period.ticks high) }
     {
         let first = period.half_length(high);
-        let rest = n % period.ticks();
+        let rest = past_whole(period.ticks(), n);
         if rest < first {
             Self::part_of_half(period, high, rest)
         } else {

@@ -6,7 +6,7 @@ use Rattle.i8254.proofs.channel.Channel.skip.Goals as goal
 
 pub returns-then-not-is_held : goal.returns-then-not-is_held
 returns-then-not-is_held c =
-    ap (with_counter (view_channel c.args.self.now)) c.after-self.ensures
+    ap (with_counter (view_channel c.args.self.now)) c.pass.ensures
     ∙ sym (free_run c.args.n (view_channel c.args.self.now) (sym c.is_held.ensures ∙ c.if-not-is_held.true))
 
 pub returns-else-not-is_held : goal.returns-else-not-is_held

@@ -22,5 +22,5 @@ returns c =
       | then-n-to_load w ↦ rw w.value-is (before c.args.n period.ticks load.result self.value w.bits_of-value.result load.ensures.same load.ensures.within.1 w.if-n-to_load.true w.bits_of-value.ensures)
       | else-n-to_load w ↦
           let held = w.bits_of-value-else-n-to_load in
-          rw w.value-is (after c.args.n period.ticks load.result self.value held.result load.ensures.same load.ensures.within.0 load.ensures.within.1 w.if-n-to_load.false period.within.0 period.within.1 (rw c.ticks-period.ensures at held.ensures))
+          rw w.value-is (after c.args.n period.ticks load.result self.value held.result load.ensures.same load.ensures.within.0 load.ensures.within.1 w.if-n-to_load.false period.within.0 period.within.1 (rw (w.past_whole.ensures, c.ticks-period.ensures) at held.ensures))
     ]

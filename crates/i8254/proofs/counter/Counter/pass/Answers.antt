@@ -4,7 +4,7 @@ use Rattle.i8254_laws.specs.Machines.{counting}
 use Rattle.i8254.specs.Control.{untriggered_mode}
 use Rattle.i8254.specs.Views.{meant, view_still}
 use Rattle.i8254.proofs.Standing.{untriggered_still}
-use Rattle.i8254.proofs.counter.Counter.after.Goals as goal
+use Rattle.i8254.proofs.counter.Counter.pass.Goals as goal
 
 pub returns-in-Still : goal.returns-in-Still
 returns-in-Still c =
