@@ -1,11 +1,13 @@
 -- The parts of an advance join.
-use Rattle.std.proofs.Common.{◌≡◌, ℕ, ◌+◌, ◌-◌, ◌≤◌, sym, ap, ◌∙◌, arith}
+use Rattle.std.proofs.Common.{◌≡◌, ℕ, ◌+◌, ◌-◌, ◌≤◌, length, sym, ap, ap₂, ◌∙◌, add-zero, arith}
+use Rattle.agenda.specs.Waiting.{Kept}
 use Rattle.rules.specs.I8259.{drive_lines}
-use Rattle.rules.specs.Board.{Fitting, Counted, hand, tick_times, on_line, lines}
-use Rattle.board_laws.specs.Jump.{Settled, Quiet, Idle, NoneDue, later, counted, jump_first, arrival_none, tick_times_time}
+use Rattle.rules.specs.Board as rules
+use Rattle.rules.specs.Board.{Fitting, Counted, levels, hand, carry_out, tick_times, on_line, lines}
+use Rattle.board_laws.specs.Jump.{Settled, Quiet, Idle, NoneDue, later, counted, jump_first, arrival_none, tick_times_time, tick_none, handing_settled, settled_later}
 use Rattle.slots.specs.Slots.{States}
 use Rattle.slots.specs.declared.fitted.Slots.{Ghosts}
-use Rattle.board.specs.Steps.{Progress, Arrives, ticking}
+use Rattle.board.specs.Steps.{Progress, Jumps, Arrives, Runs, ticking}
 use Rattle.board.specs.View.{view}
 use Rattle.board.specs.declared.board.Board.{Board}
 use Rattle.board.proofs.Called.{kept_both}
@@ -37,6 +39,30 @@ module _ {F S0 S1 S2 S3 : Type 0} {slots : Ghosts F} (states : F → States S0 S
   -- Where no write is due at the end of a jump, it has one handing alone.
   pub handed_alone : (k : ℕ) (a b : Board F slots) (edges : ℕ) → NoneDue (a.time + k) (view states a).pending → Arrives states f k edges a b → view states b ≡ hand f (later f k (view states a))
   handed_alone k a b edges none arrived = ap (λ c. c.board) (sym (arrived.same 0) ∙ arrival_none f k (view states a) 0 none)
+
+  -- A run that has no tick left has let all of them pass.
+  pub ran_out : (n left handings edges : ℕ) (a b : Board F slots) → left ≡ 0 → handings ≤ n → Progress states f (ticking f n) (ticking f left) handings edges a b → Runs states f n edges a b
+  ran_out n left handings edges a b none most passed = record {
+    same = λ e. passed.same e ∙ tick_none f left (counted f (view states b) (e + edges)) none;
+    few = omega (arith, passed.few);
+    nodes = passed.nodes;
+  }
+
+  -- A jump after which the levels are the same needs no handing.
+  pub jumped_quietly : (k : ℕ) (a b : Board F slots) → Settled f (view states a) → levels f (later f k (view states a)) ≡ levels f (view states a)
+      → view states b ≡ later f k (view states a) → Kept a.queue b.queue → Jumps states f k 0 a b
+  jumped_quietly k a b settled same is kept = record {
+    same = λ e.
+        ap (carry_out f (view states a).pending) (handing_settled f (later f k (view states a)) e (settled_later f k (view states a) settled same))
+        ∙ ap₂ (λ x n. carry_out f x.pending (counted f x n)) (sym is) (sym (add-zero e));
+    few = omega (arith, ap (λ x. length x.pending) is);
+    nodes = kept;
+  }
+
+-- A board with its slots in other states, at another time.
+abbrev pub moved_to : {S0 S1 S2 S3 : Type 0} → States S0 S1 S2 S3 → ℕ → rules.Board S0 S1 S2 S3 → rules.Board S0 S1 S2 S3
+moved_to s time b =
+    record { time = time; slot_0 = s.slot_0; slot_1 = s.slot_1; slot_2 = s.slot_2; slot_3 = s.slot_3; handed = b.handed; pair = b.pair; pending = b.pending; nodes = b.nodes }
 
 -- Between its calls a board is settled.
 pub settled : {F : Type 0} {slots : Ghosts F} (b : Board F slots) → Settled slots.fitting (view slots.states b)

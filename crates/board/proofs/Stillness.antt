@@ -8,7 +8,7 @@ use Rattle.rules.specs.Ascending.{insert}
 use Rattle.rules.specs.Device.{horizon}
 use Rattle.rules.specs.Board.{Fitting}
 use Rattle.rules.specs.TickLaws.{ticks_add}
-use Rattle.slots.specs.Slots.{States, slot_number, levels_of, ticked, Still, Foretold}
+use Rattle.slots.specs.Slots.{States, slot_number, levels_of, ticked, Still, AllStill, Foretold}
 use Rattle.slots.specs.declared.fitted.Slot.{Slot}
 use Rattle.board.specs.Deadlines.{comes_before, NoneBefore, at_tick, all_at, with_announced, Watched}
 use Rattle.board.specs.declared.board.deadlines.Deadline.{Deadline}
@@ -136,3 +136,13 @@ module _ {S0 S1 S2 S3 : Type 0} (f : Fitting S0 S1 S2 S3) where
       let free : NoneBefore n (now + (k + m)) ds = subst (λ x. NoneBefore n x ds) (omega arith) none in
       let still : Still f n m t = subst (Still f n m) (sym from) (still_later n k m s (watched (k + m) (omega arith) free)) in
       still j early
+
+  -- Where every slot is watched, no level changes before a tick that no deadline comes before.
+  pub still_before : (ahead now first : ℕ) (ds : List Deadline) (s : States S0 S1 S2 S3) → now < first → first ≤ now + ahead
+      → ((n : ℕ) → n < 4 → Watched f n ahead now ds s) → ((n : ℕ) → NoneBefore n first ds) → AllStill f (first - now) s
+  still_before ahead now first ds s soon within watched none = λ j early.
+      all_still f (ticked f j s) s (λ n few. watched n few (first - now) (omega arith) (subst (λ t. NoneBefore n t ds) (omega arith) (none n)) j early)
+
+  -- Levels that do not change before a tick do not change on what is left of the way to it.
+  pub still_on : (k now first : ℕ) (s : States S0 S1 S2 S3) → AllStill f (first - now) s → AllStill f (first - (now + k)) (ticked f k s)
+  still_on k now first s still = λ j early. sym (ap (levels_of f) (ticked_add k j s)) ∙ still (k + j) (omega arith) ∙ sym (still k (omega arith))

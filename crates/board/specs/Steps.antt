@@ -39,6 +39,9 @@ module _ {F S0 S1 S2 S3 : Type 0} {slots : Ghosts F} (states : F → States S0 S
   abbrev pub CarriesOut : ℕ → Board F slots → Board F slots → Type 0
   CarriesOut = Progress (due f) (nothing f) 0
 
+  abbrev pub Jumps : ℕ → ℕ → Board F slots → Board F slots → Type 0
+  Jumps k = Progress (arriving f k) (due f) 1
+
   abbrev pub Arrives : ℕ → ℕ → Board F slots → Board F slots → Type 0
   Arrives k = Progress (arriving f k) (nothing f) 1
 

@@ -1,8 +1,8 @@
 // What a board holds. Its calls are in the modules below, since their contracts cite a view of this struct.
-ghost use Rattle.std.specs.Prelude.{◌≡◌};
+ghost use Rattle.std.specs.Prelude.{◌≡◌, ◌-◌};
 ghost use Rattle.rules.specs.I8259.{drive_lines};
 ghost use Rattle.rules.specs.Board.{on_line, lines};
-ghost use Rattle.slots.specs.Slots.{levels_of};
+ghost use Rattle.slots.specs.Slots.{levels_of, AllStill};
 
 use agenda::Agenda;
 use handing::Ports;
@@ -22,8 +22,11 @@ const END_OF_TIME: u64 = 1 << 48;
 #[derive(Drop)]
 pub struct Board<'a, F: Slots> {
     time: u64,
+    // No slot's level changes on the ticks before this one, unless a port reaches it.
+    quiet_until: u64,
     ports: Ports<F>,
     queue: Agenda<'a, QueuedWrite>,
     ghost handed_over: { ports.handed ≡ levels_of F.fitting (F.states ports.slots) },
     ghost driven: { drive_lines (on_line lines ports.handed) ports.pair ≡ ports.pair },
+    ghost quiet: { AllStill F.fitting (quiet_until - time) (F.states ports.slots) },
 }

@@ -91,9 +91,9 @@ module _ {A B C D : Type 0} (f : Fitting A B C D) where
   unfolding carry_out
   carry_due w ws b e due = rw (eq-eqb w.tick b.time due, carry_out)
 
-  -- A settled board whose levels stay for a tick is settled after it.
-  settled_later : (b : Board A B C D) → Settled b → levels f (later 1 b) ≡ levels f b → Settled (later 1 b)
-  settled_later b s e = record {
+  -- A settled board whose levels are the same n ticks later is settled then.
+  pub settled_later : (n : ℕ) (b : Board A B C D) → Settled b → levels f (later n b) ≡ levels f b → Settled (later n b)
+  settled_later n b s e = record {
     handed = s.handed ∙ sym e;
     driven = ap (λ vs. drive_lines (on_line lines vs) b.pair) e ∙ s.driven;
   }
@@ -101,7 +101,7 @@ module _ {A B C D : Type 0} (f : Fitting A B C D) where
   tick_quiet : (b : Board A B C D) (e : ℕ) → Settled b → levels f (later 1 b) ≡ levels f b → NoneDue (b.time + 1) b.pending → tick f (counted b e) ≡ counted (later 1 b) e
   unfolding tick ticks
   tick_quiet b e s q none =
-      ap (λ c. carry_out f c.board.pending c) (handing_settled (later 1 b) e (settled_later b s q))
+      ap (λ c. carry_out f c.board.pending c) (handing_settled (later 1 b) e (settled_later 1 b s q))
       ∙ carry_none b.pending (later 1 b) e none
 
   -- later, by one tick and then by n
@@ -116,7 +116,7 @@ module _ {A B C D : Type 0} (f : Fitting A B C D) where
   jump (suc n) b e s q i =
       let here : levels f (later 1 b) ≡ levels f b = q 1 (omega arith) in
       ap (tick_times f n) (tick_quiet b e s here (i 1 (omega arith) (omega arith)))
-      ∙ jump n (later 1 b) e (settled_later b s here)
+      ∙ jump n (later 1 b) e (settled_later 1 b s here)
       (λ j h. ap (levels f) (later_suc j b) ∙ q (suc j) (omega arith) ∙ sym here)
       (λ k low high. shift k low high)
       ∙ ap (λ c. counted c e) (later_suc n b)

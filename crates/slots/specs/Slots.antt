@@ -75,6 +75,10 @@ module _ {S0 S1 S2 S3 : Type 0} (f : rules.Fitting S0 S1 S2 S3) where
   abbrev pub Still : ℕ → ℕ → States S0 S1 S2 S3 → Type 0
   Still n k s = (j : ℕ) → j < k → slice_index_or (levels_of (ticked j s)) n false ≡ slice_index_or (levels_of s) n false
 
+  -- No slot's level changes on the ticks before the k-th.
+  abbrev pub AllStill : ℕ → States S0 S1 S2 S3 → Type 0
+  AllStill k s = (j : ℕ) → j < k → levels_of (ticked j s) ≡ levels_of s
+
   -- What an announcement of slot n tells the board: nothing changes before it.
   abbrev pub Foretold : ℕ → Option ℕ → States S0 S1 S2 S3 → Type 0
   Foretold n None s = Still n (horizon + 1) s

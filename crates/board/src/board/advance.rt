@@ -3,7 +3,7 @@ ghost use Rattle.std.specs.Prelude.{◌≡◌, ◌+◌, ◌-◌, ◌^◌, ◌<�
 ghost use Rattle.rules.specs.Device.{horizon};
 ghost use Rattle.rules.specs.Board as rules;
 ghost use Rattle.board_laws.specs.Jump.{Idle};
-ghost use Rattle.board.specs.Steps.{CarriesNext, CarriesOut, Arrives, Runs, to_write};
+ghost use Rattle.board.specs.Steps.{CarriesNext, CarriesOut, Jumps, Arrives, Runs, to_write};
 ghost use Rattle.board.specs.Answers.{of_advance};
 ghost use Rattle.board.specs.View.{view, Does};
 
@@ -21,6 +21,7 @@ impl<'a, F: Slots> Board<'a, F> {
         let write = self.queue.first().filter(|write| write.tick == self.time)?;
         let _ = self.queue.take();
         self.ports.write(F::target(write.port), write.byte);
+        self.quiet_until = 0;
         Some(self.ports.hand_over())
     }
 
@@ -35,16 +36,28 @@ impl<'a, F: Slots> Board<'a, F> {
         edges
     }
 
-    // Jumps k ticks on: the devices skip them, the levels are handed over once, and then the writes that are due are carried out.
-    // Answers the edges of all these handings.
+    // Jumps k ticks on: the devices skip them, and the levels are handed over once. Where no level has changed that would do nothing,
+    // since the board is settled, and is left out. Answers the edges of the handing.
+    fn jump(&mut self, k: u64) -> u64
+        requires near { k ≤ horizon }
+        requires time { self.old.time + k < 2 ^ 62 }
+        ensures { Jumps F.states F.fitting k result self.old self.new }
+    {
+        self.ports.slots.skip(k);
+        self.time += k;
+        if self.time < self.quiet_until {
+            return 0;
+        }
+        self.ports.hand_over()
+    }
+
+    // Jumps k ticks on, and then carries out the writes that are due. Answers the edges of all the handings.
     fn arrive(&mut self, k: u64) -> u64
         requires near { k ≤ horizon }
         requires time { self.old.time + k < 2 ^ 62 }
         ensures { Arrives F.states F.fitting k result self.old self.new }
     {
-        self.ports.slots.skip(k);
-        self.time += k;
-        let edges = self.ports.hand_over();
+        let edges = self.jump(k);
         edges + self.carry_out()
     }
 
@@ -64,20 +77,27 @@ impl<'a, F: Slots> Board<'a, F> {
         }
     }
 
-    // Lets ticks pass of which no write is due before the last, from deadline to deadline, and answers their edges.
+    // Lets ticks pass of which no write is due before the last, and answers their edges: in one jump where no level changes, and else
+    // from deadline to deadline.
     fn run_stretch(&mut self, ticks: u64) -> u64
+        requires some { 1 ≤ ticks }
         requires near { ticks ≤ horizon }
         requires time { self.old.time + ticks < 2 ^ 62 }
         requires idle { Idle F.fitting (ticks - 1) (view F.states self.old) }
         ensures { Runs F.states F.fitting ticks result self.old self.new }
     {
+        if self.time + ticks <= self.quiet_until {
+            return self.arrive(ticks);
+        }
+        let end = self.time + HORIZON;
         let mut nodes = [Deadline::UNUSED; 4];
         let mut deadlines = Deadlines::new(&mut nodes, self.time);
         let mut left = ticks;
         let mut edges = 0;
         while left > 0 {
             deadlines.renew(&self.ports.slots, self.time);
-            let stride = deadlines.until_first(self.time, left);
+            self.quiet_until = deadlines.first_tick(end, self.time);
+            let stride = left.min(self.quiet_until - self.time);
             edges += self.arrive(stride);
             left -= stride;
         }

@@ -20,6 +20,7 @@ impl<'a, F: Slots> Board<'a, F> {
     {
         Board {
             time: 0,
+            quiet_until: 0,
             ports: Ports::new(slots),
             queue: Agenda::new(nodes),
         }
@@ -50,6 +51,7 @@ impl<'a, F: Slots> Board<'a, F> {
         ensures { Does F.states F.fitting (rules.Call.read port) self.old (rules.Answer.byte_given result) self.new }
     {
         let byte = self.ports.read(F::target(port));
+        self.quiet_until = 0;
         self.ports.hand_over();
         byte
     }
@@ -58,6 +60,7 @@ impl<'a, F: Slots> Board<'a, F> {
         ensures { Does F.states F.fitting (rules.Call.write port byte) self.old rules.Answer.done self.new }
     {
         self.ports.write(F::target(port), byte);
+        self.quiet_until = 0;
         self.ports.hand_over();
     }
 

@@ -1,10 +1,10 @@
-use Rattle.std.proofs.Common.{◌≡◌, ◌-◌, ap, ◌∙◌, arith}
+use Rattle.std.proofs.Common.{◌-◌, ap, ◌∙◌, arith}
 use Rattle.rules.specs.Board.{tick_times}
-use Rattle.board_laws.specs.Jump.{counted, split_ticks, tick_none}
+use Rattle.board_laws.specs.Jump.{counted, split_ticks}
 use Rattle.board.specs.View.{view}
 use Rattle.board.specs.Steps.{Progress, ticking}
 use Rattle.board.proofs.Called.{few_pending}
-use Rattle.board.proofs.Progressing.{progress_both, same_end}
+use Rattle.board.proofs.Progressing.{progress_both, same_end, ran_out}
 use Rattle.board.proofs.board.Board.run.Goals as goal
 
 pub run_stretch-edges-requires-clause-time : goal.run_stretch-edges-requires-clause-time
@@ -37,10 +37,4 @@ loop-left-preserved g c =
 
 pub returns : goal.returns
 returns g c =
-    let passed = c.loop-left.invariant.passed in
-    let none : c.loop-left.left ≡ 0 = omega arith in
-    record {
-      same = λ e. passed.same e ∙ tick_none g.F.Slots.fitting c.loop-left.left _ none;
-      few = omega (arith, passed.few);
-      nodes = passed.nodes;
-    }
+    ran_out g.F.Slots.states g.F.Slots.fitting c.args.ticks c.loop-left.left (c.args.ticks - c.loop-left.left) c.loop-left.edges c.args.self.now c.loop-left.self (omega arith) (omega arith) c.loop-left.invariant.passed
