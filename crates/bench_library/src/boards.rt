@@ -1,0 +1,51 @@
+// Boards with the timer in slot 0 and the other slots empty.
+use crate::call::{Call, answer_of_advance};
+use agenda::MOST_NODES;
+use board::Board;
+use device::{Divider, Empty};
+use i8254::Timer;
+use rules::QueuedWrite;
+use slots::Fitted;
+
+// Of the standard fitting.
+const FACTOR: u64 = 12;
+
+const UNUSED: QueuedWrite = QueuedWrite {
+    tick: 0,
+    port: 0,
+    byte: 0,
+};
+
+fn fitting(factor: u64) -> Fitted<Divider<Timer>, Empty, Empty, Empty> {
+    Fitted {
+        slot_0: Divider::new(factor, Timer::power_on()),
+        slot_1: Empty,
+        slot_2: Empty,
+        slot_3: Empty,
+    }
+}
+
+// Performs the calls one after the other on a new board with so many nodes, 4,096 at most, and stores each one's answer.
+#[unsafe(no_mangle)]
+pub extern "C" fn bench_perform(factor: u64, nodes: usize, calls: &[Call], answers: &mut [u64]) {
+    let mut lent = [UNUSED; MOST_NODES];
+    let mut board = Board::new(fitting(factor), &mut lent[..nodes.min(MOST_NODES)]);
+    for (call, answer) in calls.iter().zip(answers) {
+        *answer = call.perform(&mut board);
+    }
+}
+
+// Performs the calls on a new board, and then advances it by n ticks for so many times. Answers the sum of the advances' answers.
+#[unsafe(no_mangle)]
+pub extern "C" fn bench_advances(calls: &[Call], n: u64, times: u64) -> u64 {
+    let mut lent = [UNUSED; MOST_NODES];
+    let mut board = Board::new(fitting(FACTOR), &mut lent);
+    for call in calls {
+        let _ = call.perform(&mut board);
+    }
+    let mut sum = 0u64;
+    for _ in 0..times {
+        sum = sum.wrapping_add(answer_of_advance(board.advance(n)));
+    }
+    sum
+}
