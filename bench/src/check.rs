@@ -15,8 +15,8 @@ const LONG_SEQUENCES: u64 = 1_000;
 const TIMERS: u64 = 3_000;
 
 const PORTS: [u16; 20] = [
-    0x20, 0x21, 0xA0, 0xA1, 0x40, 0x41, 0x42, 0x43, 0x44, 0x70, 0x71, 0x3F8, 0x3F9, 0x2F8, 0x2FF,
-    0x22, 0x9F, 0x6F, 0x3F7, 0,
+    0x20, 0x21, 0xA0, 0xA1, 0x40, 0x41, 0x42, 0x43, 0x44, 0x70, 0x71, 0x3F8, 0x3F9, 0x2F8, 0x2FF, 0x22, 0x9F,
+    0x6F, 0x3F7, 0,
 ];
 
 /// Makes sequences of calls, and knows the time that the board has then.
@@ -88,8 +88,7 @@ impl Script {
         self.calls.push(Call::write(0x43, word));
         for byte in 0..self.random.below(4) {
             let count = self.count_byte(byte % 2 == 1);
-            self.calls
-                .push(Call::write(0x40 + u16::from(channel), count));
+            self.calls.push(Call::write(0x40 + u16::from(channel), count));
         }
     }
 
@@ -272,9 +271,7 @@ fn compare(
     let Some(place) = left.1.iter().zip(right.1).position(|(a, b)| a != b) else {
         return true;
     };
-    println!(
-        "DIFFERENCE in {what} sequence {seed}, factor {factor}, {nodes} nodes, at call {place}:"
-    );
+    println!("DIFFERENCE in {what} sequence {seed}, factor {factor}, {nodes} nodes, at call {place}:");
     for call in &calls[place.saturating_sub(200)..=place] {
         println!("  {call:?}");
     }
@@ -361,13 +358,7 @@ fn check_timer(seed: u64) -> bool {
 fn check_full_queue() -> bool {
     let mut random = Random::new(1);
     let mut calls: Vec<Call> = (0..4_100)
-        .map(|_| {
-            Call::queue(
-                1 + random.below(3_000),
-                random.one_of(&PORTS),
-                random.byte(),
-            )
-        })
+        .map(|_| Call::queue(1 + random.below(3_000), random.one_of(&PORTS), random.byte()))
         .collect();
     calls.extend([
         Call::advance(1_500),

@@ -2,8 +2,7 @@
 //! is due or reached, and the controllers are driven only where something may have changed.
 
 use crate::call::{
-    self, BAD_TICK, END_OF_TIME, HORIZON, LONG_ADVANCE, MOST_NODES, PAST_END, QUEUE_FULL,
-    QueuedWrite,
+    self, BAD_TICK, END_OF_TIME, HORIZON, LONG_ADVANCE, MOST_NODES, PAST_END, QUEUE_FULL, QueuedWrite,
 };
 use std::cmp::Reverse;
 use std::collections::BinaryHeap;
@@ -56,11 +55,7 @@ pub struct Divider<D> {
 
 impl<D> Divider<D> {
     pub fn new(factor: u64, inner: D) -> Self {
-        let factor = if (1..=64).contains(&factor) {
-            factor
-        } else {
-            1
-        };
+        let factor = if (1..=64).contains(&factor) { factor } else { 1 };
         Divider {
             factor,
             phase: 0,

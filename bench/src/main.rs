@@ -15,17 +15,13 @@ type Events = workloads::Rust<events::TimerBoard, events::Timer>;
 type Ticking = workloads::Rust<ticking::TimerBoard, ticking::Timer>;
 
 fn main() -> ExitCode {
-    match std::env::args()
-        .skip(1)
-        .collect::<Vec<_>>()
-        .iter()
-        .map(String::as_str)
-        .collect::<Vec<_>>()[..]
-    {
-        [] => table::run(),
-        ["--check"] => check::run(),
+    let arguments: Vec<String> = std::env::args().skip(1).collect();
+    match arguments.as_slice() {
+        [] => table::run(""),
+        [word] if word == "--check" => check::run(),
+        [word] if !word.starts_with('-') => table::run(word),
         _ => {
-            eprintln!("usage: bench/run [--check]");
+            eprintln!("usage: bench/run [--check | WORD]");
             ExitCode::from(2)
         }
     }

@@ -50,7 +50,7 @@ fn timed(mut work: impl FnMut() -> u64) -> Timed {
     }
 }
 
-/// The sum that both answered.
+/// Stops the benchmark where two contestants answer differently.
 fn same(workload: &str, left: u64, right: u64) {
     assert_eq!(
         left, right,
@@ -79,16 +79,10 @@ fn advances(row: Advances) -> Row {
     same(row.workload, proved.sum, events.sum);
     let (slow_n, slow_times) = row.slow;
     let ticking = timed(|| Ticking::advances(row.calls, slow_n, slow_times));
-    same(
-        row.workload,
-        ticking.sum,
-        Proved::advances(row.calls, slow_n, slow_times),
-    );
-    same(
-        row.workload,
-        ticking.sum,
-        Events::advances(row.calls, slow_n, slow_times),
-    );
+    let others = [Proved::advances, Events::advances];
+    for other in others {
+        same(row.workload, ticking.sum, other(row.calls, slow_n, slow_times));
+    }
     let scale = ticks(row.work) / ticks(row.slow);
     Row {
         workload: row.workload.to_string(),
@@ -100,35 +94,33 @@ fn advances(row: Advances) -> Row {
     }
 }
 
-fn scripted<C: Contestant>(calls: &[Call], answers: &mut [u64], times: u64) -> Timed {
+fn scripted<C: Contestant>(calls: &[Call], times: u64) -> Timed {
+    let mut answers = vec![0; calls.len()];
     timed(|| {
         (0..times).fold(0u64, |sum, _| {
-            C::perform(12, 4_096, calls, answers);
+            C::perform(12, 4_096, calls, &mut answers);
             answers
                 .iter()
-                .fold(sum, |sum, answer| sum.rotate_left(7) ^ answer)
+                .fold(sum, |sum, answer| sum.wrapping_mul(31).wrapping_add(*answer))
         })
     })
 }
 
-fn script(workload: &str, unit: &'static str, units: f64, calls: &[Call]) -> Row {
-    let mut answers = vec![0; calls.len()];
-    let times = 20;
-    let proved = scripted::<Proved>(calls, &mut answers, times);
-    let events = scripted::<Events>(calls, &mut answers, times);
-    let ticking = scripted::<Ticking>(calls, &mut answers, 1);
+/// The calls on new boards, for each of 4,096 writes.
+fn script(workload: &str, calls: &[Call]) -> Row {
+    const TIMES: u64 = 20;
+    const WRITES: f64 = 4_096.0;
+    let proved = scripted::<Proved>(calls, TIMES);
+    let events = scripted::<Events>(calls, TIMES);
+    let ticking = scripted::<Ticking>(calls, 1);
     same(workload, proved.sum, events.sum);
-    same(
-        workload,
-        ticking.sum,
-        scripted::<Proved>(calls, &mut answers, 1).sum,
-    );
+    same(workload, ticking.sum, scripted::<Proved>(calls, 1).sum);
     Row {
         workload: workload.to_string(),
-        unit,
-        proved: proved.seconds / (times as f64 * units),
-        events: events.seconds / (times as f64 * units),
-        ticking: Some(ticking.seconds / units),
+        unit: "ns per write",
+        proved: proved.seconds / (TIMES as f64 * WRITES),
+        events: events.seconds / (TIMES as f64 * WRITES),
+        ticking: Some(ticking.seconds / WRITES),
         scaled: false,
     }
 }
@@ -136,28 +128,17 @@ fn script(workload: &str, unit: &'static str, units: f64, calls: &[Call]) -> Row
 fn entries(n: usize) -> Vec<Call> {
     let mut random = Random::new(n as u64);
     (0..n)
-        .map(|_| {
-            Call::queue(
-                1 + random.below(1 << 24),
-                random.next() as u16,
-                random.byte(),
-            )
-        })
+        .map(|_| Call::queue(1 + random.below(1 << 24), random.next() as u16, random.byte()))
         .collect()
 }
 
-fn agenda(
-    what: &str,
-    n: usize,
-    proved: fn(&[Call], u64) -> u64,
-    heap: fn(&[Call], u64) -> u64,
-) -> Row {
+fn agenda(what: &str, n: usize, proved: fn(&[Call], u64) -> u64, heap: fn(&[Call], u64) -> u64) -> Row {
     let entries = entries(n);
     let times = (1 << 20) / n as u64;
     let units = (times * n as u64) as f64;
     let proved = timed(|| proved(&entries, times));
     let heap = timed(|| heap(&entries, times));
-    let workload = format!("agenda: {what}, n = {n}");
+    let workload = what.to_string();
     same(&workload, proved.sum, heap.sum);
     Row {
         workload,
@@ -171,35 +152,32 @@ fn agenda(
 
 type OfTimer = fn(u8, u16, u64, u64) -> u64;
 
-/// A timer alone. The ticking one skips fewer ticks where there are many, and announces less often.
+const SKIP: [OfTimer; 3] = [Proved::timer_skip, Events::timer_skip, Ticking::timer_skip];
+
+const ANNOUNCE: [OfTimer; 3] = [
+    Proved::timer_announce,
+    Events::timer_announce,
+    Ticking::timer_announce,
+];
+
+/// A timer alone. The ticking one skips fewer ticks where there are many, and does it less often.
 fn timer(
-    what: &str,
+    workload: &str,
     mode: u8,
     count: u16,
-    n: u64,
-    slow_n: u64,
-    slow_times: u64,
+    (n, slow_n, slow_times): (u64, u64, u64),
     [proved, events, ticking]: [OfTimer; 3],
 ) -> Row {
     const TIMES: u64 = 1_000_000;
     let word = 0x30 | mode << 1;
-    let workload = format!("timer, mode {mode}: {what}");
     let by_proved = timed(|| proved(word, count, n, TIMES));
     let by_events = timed(|| events(word, count, n, TIMES));
-    same(&workload, by_proved.sum, by_events.sum);
+    same(workload, by_proved.sum, by_events.sum);
     let slowly = timed(|| ticking(word, count, slow_n, slow_times));
-    same(
-        &workload,
-        slowly.sum,
-        proved(word, count, slow_n, slow_times),
-    );
-    same(
-        &workload,
-        slowly.sum,
-        events(word, count, slow_n, slow_times),
-    );
+    same(workload, slowly.sum, proved(word, count, slow_n, slow_times));
+    same(workload, slowly.sum, events(word, count, slow_n, slow_times));
     Row {
-        workload,
+        workload: workload.to_string(),
         unit: "ns",
         proved: by_proved.seconds / TIMES as f64,
         events: by_events.seconds / TIMES as f64,
@@ -232,109 +210,110 @@ fn pending() -> Vec<Call> {
     calls
 }
 
-fn rows(mut add: impl FnMut(Row)) {
-    add(advances(Advances {
-        workload: "idle: an advance of 2^32",
-        unit: "µs",
-        units: 65_536.0,
-        calls: &both_initialised(),
-        work: (HORIZON, 65_536),
-        slow: (20_000_000, 1),
-    }));
+/// Every row: its name, and how it is measured.
+fn rows() -> Vec<(String, Box<dyn Fn(&str) -> Row>)> {
+    let mut rows: Vec<(String, Box<dyn Fn(&str) -> Row>)> = Vec::new();
+    let mut add = |name: String, row: Box<dyn Fn(&str) -> Row>| rows.push((name, row));
+    let advancing = |unit, units, calls: Vec<Call>, work, slow| -> Box<dyn Fn(&str) -> Row> {
+        Box::new(move |workload| {
+            advances(Advances {
+                workload,
+                unit,
+                units,
+                calls: &calls,
+                work,
+                slow,
+            })
+        })
+    };
+
+    add(
+        "idle: an advance of 2^32".to_string(),
+        advancing(
+            "µs",
+            65_536.0,
+            both_initialised(),
+            (HORIZON, 65_536),
+            (20_000_000, 1),
+        ),
+    );
     for mode in [2, 3] {
         let edges = 2.0 * HOUR as f64 / (12.0 * 1_193.0);
-        add(advances(Advances {
-            workload: &format!("an hour of board time, timer at 1,000 Hz in mode {mode}"),
-            unit: "ns per edge",
-            units: edges,
-            calls: &with_timer(mode, 1_193),
-            work: (HOUR / 16, 16),
-            slow: (20_000_000, 1),
-        }));
+        add(
+            format!("an hour of board time, timer at 1,000 Hz in mode {mode}"),
+            advancing(
+                "ns per edge",
+                edges,
+                with_timer(mode, 1_193),
+                (HOUR / 16, 16),
+                (20_000_000, 1),
+            ),
+        );
     }
-    add(advances(Advances {
-        workload: "10^9 ticks, mode 3 with count 2, an edge every 12 ticks",
-        unit: "ns per edge",
-        units: 1e9 / 12.0,
-        calls: &with_timer(3, 2),
-        work: (1_000_000_000, 1),
-        slow: (20_000_000, 1),
-    }));
+    add(
+        "10^9 ticks, mode 3 with count 2: an edge every 12 ticks".to_string(),
+        advancing(
+            "ns per edge",
+            1e9 / 12.0,
+            with_timer(3, 2),
+            (1_000_000_000, 1),
+            (20_000_000, 1),
+        ),
+    );
     let mut calls = pending();
-    add(script(
-        "4,096 writes queued in random order",
-        "ns per write",
-        4_096.0,
-        &calls,
-    ));
+    let queueing = calls.clone();
+    add(
+        "4,096 writes queued in random order".to_string(),
+        Box::new(move |workload| script(workload, &queueing)),
+    );
     calls.push(Call::advance(1 << 24));
-    add(script(
-        "the same, and an advance of 2^24 over them",
-        "ns per write",
-        4_096.0,
-        &calls,
-    ));
+    calls.extend([0x20, 0x21, 0xA0, 0xA1, 0x42, 0x42].map(Call::read));
+    add(
+        "the same, and an advance of 2^24 over them".to_string(),
+        Box::new(move |workload| script(workload, &calls)),
+    );
     for (n, times, slow) in [
         (1, 10_000_000, 10_000_000),
         (100, 3_000_000, 100_000),
         (10_000, 300_000, 2_000),
     ] {
-        add(advances(Advances {
-            workload: &format!("timer at 1,000 Hz: an advance of {n}"),
-            unit: "ns",
-            units: times as f64,
-            calls: &with_timer(3, 1_193),
-            work: (n, times),
-            slow: (n, slow),
-        }));
+        add(
+            format!("timer at 1,000 Hz: an advance of {}", grouped(n as f64)),
+            advancing("ns", times as f64, with_timer(3, 1_193), (n, times), (n, slow)),
+        );
     }
     for n in [16, 256, 4_096] {
-        add(agenda(
-            "fill and empty",
-            n,
-            proved::agenda_fill,
-            workloads::heap_fill,
-        ));
+        add(
+            format!("agenda: fill and empty, n = {}", grouped(n as f64)),
+            Box::new(move |workload| agenda(workload, n, proved::agenda_fill, workloads::heap_fill)),
+        );
     }
     for n in [16, 256, 4_096] {
-        add(agenda(
-            "take one, put it back later",
-            n,
-            proved::agenda_steady,
-            workloads::heap_steady,
-        ));
+        add(
+            format!("agenda: take one, put it back later, n = {}", grouped(n as f64)),
+            Box::new(move |workload| agenda(workload, n, proved::agenda_steady, workloads::heap_steady)),
+        );
     }
     for mode in [0, 2, 3] {
         for (n, name) in [(1, "1"), (100, "100"), (10_000, "10^4"), (HORIZON, "2^32")] {
             let slow_n = n.min(10_000);
-            let works: [OfTimer; 3] = [Proved::timer_skip, Events::timer_skip, Ticking::timer_skip];
-            add(timer(
-                &format!("skip {name}"),
-                mode,
-                40_000,
-                n,
-                slow_n,
-                1_000,
-                works,
-            ));
+            add(
+                format!("timer, mode {mode}: skip {name}"),
+                Box::new(move |workload| timer(workload, mode, 40_000, (n, slow_n, 1_000), SKIP)),
+            );
         }
-        for (count, name) in [(2, "2"), (1_193, "1,193"), (0, "65,536")] {
-            let works: [OfTimer; 3] = [
-                Proved::timer_announce,
-                Events::timer_announce,
-                Ticking::timer_announce,
-            ];
-            add(timer(
-                &format!("skip 1 and announce, count {name}"),
-                mode,
-                count,
-                1,
-                1,
-                20,
-                works,
-            ));
+        for count in [2, 1_193, 0] {
+            let ticks = if count == 0 { 65_536 } else { u64::from(count) };
+            add(
+                format!(
+                    "timer, mode {mode}: skip 1 and announce, count {}",
+                    grouped(ticks as f64)
+                ),
+                Box::new(move |workload| timer(workload, mode, count, (1, 1, 20), ANNOUNCE)),
+            );
         }
     }
+    rows
 }
 
 /// In the row's unit.
@@ -369,39 +348,37 @@ fn ratio(value: f64) -> String {
     }
 }
 
-pub fn run() -> ExitCode {
+/// Prints the rows whose names hold the word.
+pub fn run(word: &str) -> ExitCode {
     println!(
         "| Workload | Unit | proved | event-driven | ticking | proved / event-driven | ticking / proved |"
     );
     println!("|---|---|---:|---:|---:|---:|---:|");
+    let wanted = rows().into_iter().filter(|(name, _)| name.contains(word));
     let mut missed = 0;
     let mut all = 0;
-    rows(|row| {
-        let (ticking, faster) = match row.ticking {
-            Some(ticking) => {
-                let scaled = if row.scaled { "*" } else { "" };
-                (
-                    number(ticking, row.unit) + scaled,
-                    ratio(ticking / row.proved),
-                )
-            }
-            None => ("".to_string(), "".to_string()),
-        };
+    for (name, measure) in wanted {
+        let row = measure(&name);
+        let mark = if row.scaled { "*" } else { "" };
+        let ticking = row
+            .ticking
+            .map_or(String::new(), |ticking| number(ticking, row.unit) + mark);
+        let faster = row
+            .ticking
+            .map_or(String::new(), |ticking| ratio(ticking / row.proved));
         all += 1;
         if row.proved > 1.2 * row.events {
             missed += 1;
         }
         println!(
-            "| {} | {} | {} | {} | {} | {} | {} |",
+            "| {} | {} | {} | {} | {ticking} | {} | {faster} |",
             row.workload,
             row.unit,
             number(row.proved, row.unit),
             number(row.events, row.unit),
-            ticking,
             ratio(row.proved / row.events),
-            faster
         );
-    });
+    }
     println!();
     println!("Of the agenda, the event-driven column is the standard library's BinaryHeap.");
     println!(

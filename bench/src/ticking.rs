@@ -1,8 +1,7 @@
 //! The plain board: it does what docs/RULES.md says, one tick after the other.
 
 use crate::call::{
-    self, BAD_TICK, END_OF_TIME, HORIZON, LONG_ADVANCE, MOST_NODES, PAST_END, QUEUE_FULL,
-    QueuedWrite,
+    self, BAD_TICK, END_OF_TIME, HORIZON, LONG_ADVANCE, MOST_NODES, PAST_END, QUEUE_FULL, QueuedWrite,
 };
 
 pub trait Device {
@@ -39,11 +38,7 @@ pub struct Divider<D> {
 
 impl<D> Divider<D> {
     pub fn new(factor: u64, inner: D) -> Self {
-        let factor = if (1..=64).contains(&factor) {
-            factor
-        } else {
-            1
-        };
+        let factor = if (1..=64).contains(&factor) { factor } else { 1 };
         Divider {
             factor,
             phase: 0,
@@ -109,11 +104,7 @@ impl Channel {
 
     fn begin_half(&mut self, count: u32, high: bool) {
         let even = count - count % 2;
-        let ticks = if high {
-            (count + count % 2) / 2
-        } else {
-            even / 2
-        };
+        let ticks = if high { (count + count % 2) / 2 } else { even / 2 };
         self.out = high;
         self.counter = even as u16;
         self.loaded = true;
@@ -418,11 +409,7 @@ impl Chip {
         match self.stage {
             Stage::WaitIcw2 => {
                 self.base = byte & 0xF8;
-                self.stage = if self.single {
-                    after_icw3
-                } else {
-                    Stage::WaitIcw3
-                };
+                self.stage = if self.single { after_icw3 } else { Stage::WaitIcw3 };
             }
             Stage::WaitIcw3 => self.stage = after_icw3,
             Stage::WaitIcw4 => self.stage = Stage::Ready,
@@ -482,12 +469,7 @@ pub struct Board<D0, D1, D2, D3> {
 
 impl<D0: Device, D1: Device, D2: Device, D3: Device> Board<D0, D1, D2, D3> {
     pub fn new(slot_0: D0, slot_1: D1, slot_2: D2, slot_3: D3, nodes: usize) -> Self {
-        let handed = [
-            slot_0.level(),
-            slot_1.level(),
-            slot_2.level(),
-            slot_3.level(),
-        ];
+        let handed = [slot_0.level(), slot_1.level(), slot_2.level(), slot_3.level()];
         let [slave, master] = Self::lines(&handed).to_be_bytes();
         Board {
             time: 0,

@@ -96,7 +96,8 @@ impl<B: Board, T: Timer> Contestant for Rust<B, T> {
 }
 
 fn mixed(sum: u64, write: QueuedWrite) -> u64 {
-    sum.rotate_left(5) ^ write.tick ^ u64::from(write.port)
+    sum.wrapping_mul(31)
+        .wrapping_add(write.tick ^ u64::from(write.port))
 }
 
 /// Pushes all entries into a heap of the standard library and pops them again, for so many times.

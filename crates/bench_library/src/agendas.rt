@@ -11,7 +11,8 @@ const UNUSED: QueuedWrite = QueuedWrite {
 
 // Depends on the order in which the writes come.
 fn mixed(sum: u64, write: QueuedWrite) -> u64 {
-    sum.rotate_left(5) ^ write.tick ^ u64::from(write.port)
+    sum.wrapping_mul(31)
+        .wrapping_add(write.tick ^ u64::from(write.port))
 }
 
 // Puts all entries into an empty agenda and takes them out again, for so many times.
