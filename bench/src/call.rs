@@ -83,14 +83,17 @@ pub struct QueuedWrite {
     pub byte: u8,
 }
 
-/// A board with the 8254 behind a divider in slot 0 and empty devices in the others.
 pub trait Board {
-    fn with_timer(factor: u64, nodes: usize) -> Self;
     fn advance(&mut self, n: u64) -> Result<u64, u8>;
     fn read(&mut self, port: u16) -> u8;
     fn write(&mut self, port: u16, byte: u8);
     fn acknowledge(&mut self) -> u8;
     fn queue(&mut self, write: QueuedWrite) -> Result<(), u8>;
+}
+
+/// A board that is made with its devices.
+pub trait Fitted: Board {
+    fn fitted(factor: u64, nodes: usize) -> Self;
 }
 
 /// The timer alone, with ticks of its own.

@@ -1,15 +1,57 @@
 //! The boards against each other, on random sequences of calls: every answer of every call must be the same.
 
 use crate::call::{Call, END_OF_TIME, HORIZON};
-use crate::proved::Proved;
+use crate::proved::{self, Proved};
 use crate::random::Random;
-use crate::workloads::Contestant;
-use crate::{Events, Ticking};
+use crate::workloads::{Contestant, Perform, perform};
+use crate::{Events, Ticking, events, ticking};
 use std::process::ExitCode;
 
-/// Sequences whose ticks can all be stepped, and sequences with advances of any length, which the two other boards run.
-const SHORT_SEQUENCES: u64 = 6_000;
-const LONG_SEQUENCES: u64 = 1_000;
+/// A kind of random sequences, and the boards that must give the same answers on them.
+struct Kind {
+    name: &'static str,
+    sequences: u64,
+    /// Also advances of millions of ticks and more, and times near the end.
+    long: bool,
+    /// The first ports of the timers.
+    timers: &'static [u16],
+    boards: &'static [(&'static str, Perform)],
+}
+
+const KINDS: [Kind; 3] = [
+    Kind {
+        name: "a timer in slot 0",
+        sequences: 6_000,
+        long: false,
+        timers: &[0x40],
+        boards: &[
+            ("proved", proved::perform),
+            ("event-driven", perform::<events::OneTimer>),
+            ("ticking", perform::<ticking::OneTimer>),
+        ],
+    },
+    Kind {
+        name: "a timer in each slot",
+        sequences: 6_000,
+        long: false,
+        timers: &[0x40, 0x70, 0x3F8, 0x2F8],
+        boards: &[
+            ("proved", proved::perform_four),
+            ("event-driven", perform::<events::FourTimers>),
+            ("ticking", perform::<ticking::FourTimers>),
+        ],
+    },
+    Kind {
+        name: "long advances",
+        sequences: 1_000,
+        long: true,
+        timers: &[0x40],
+        boards: &[
+            ("proved", proved::perform),
+            ("event-driven", perform::<events::OneTimer>),
+        ],
+    },
+];
 
 /// Timers alone.
 const TIMERS: u64 = 3_000;
@@ -25,6 +67,7 @@ struct Script {
     calls: Vec<Call>,
     time: u64,
     long: bool,
+    timers: &'static [u16],
 }
 
 impl Script {
@@ -85,20 +128,22 @@ impl Script {
         if self.long && word & 0x30 == 0x10 {
             word |= 0x20;
         }
-        self.calls.push(Call::write(0x43, word));
+        let first = self.random.one_of(self.timers);
+        self.calls.push(Call::write(first + 3, word));
         for byte in 0..self.random.below(4) {
             let count = self.count_byte(byte % 2 == 1);
-            self.calls.push(Call::write(0x40 + u16::from(channel), count));
+            self.calls.push(Call::write(first + u16::from(channel), count));
         }
     }
 
     fn read_back(&mut self) {
         let channel = self.random.below(3) as u8;
+        let first = self.random.one_of(self.timers);
         if self.random.below(2) == 0 {
-            self.calls.push(Call::write(0x43, channel << 6));
+            self.calls.push(Call::write(first + 3, channel << 6));
         }
         for _ in 0..self.random.below(4) {
-            self.calls.push(Call::read(0x40 + u16::from(channel)));
+            self.calls.push(Call::read(first + u16::from(channel)));
         }
     }
 
@@ -141,9 +186,10 @@ impl Script {
             4..7 => self.time + 1 + self.random.below(3),
             _ => self.time + 1 + near,
         };
+        let first = self.random.one_of(self.timers);
         let (port, byte) = match self.random.below(8) {
-            0..3 if !self.long => (0x40, self.count_byte(false)),
-            3 if !self.long => (0x43, self.random.byte() & 0x3F),
+            0..3 if !self.long => (first, self.count_byte(false)),
+            3 if !self.long => (first + 3, self.random.byte() & 0x3F),
             4 => (self.random.one_of(&[0x21, 0xA1]), self.random.byte()),
             5 => (self.random.one_of(&[0x20, 0xA0]), self.random.byte() & 0xEF),
             _ => (self.port(), self.random.byte()),
@@ -173,10 +219,11 @@ impl Script {
 
     /// Reads all that can be read.
     fn look(&mut self) {
-        for channel in 0..3 {
-            let port = 0x40 + u16::from(channel);
-            self.calls.push(Call::write(0x43, channel << 6));
-            self.calls.extend([Call::read(port); 3]);
+        for first in self.timers {
+            for channel in 0..3 {
+                self.calls.push(Call::write(first + 3, channel << 6));
+                self.calls.extend([Call::read(first + u16::from(channel)); 3]);
+            }
         }
         for chip in [0x20, 0xA0] {
             for selection in [0x0A, 0x0B] {
@@ -207,14 +254,15 @@ pub fn both_initialised() -> Vec<Call> {
         .collect()
 }
 
-fn script(seed: u64, long: bool) -> Vec<Call> {
+fn script(seed: u64, kind: &Kind) -> Vec<Call> {
     let mut script = Script {
         random: Random::new(seed),
         calls: Vec::new(),
         time: 0,
-        long,
+        long: kind.long,
+        timers: kind.timers,
     };
-    if long && script.random.below(10) == 0 {
+    if kind.long && script.random.below(10) == 0 {
         // Near the end of time.
         script.calls.extend([Call::advance(HORIZON); 65_535]);
         script.time = END_OF_TIME - HORIZON;
@@ -230,9 +278,9 @@ fn script(seed: u64, long: bool) -> Vec<Call> {
     script.calls
 }
 
-fn answers<C: Contestant>(factor: u64, nodes: usize, calls: &[Call]) -> Vec<u64> {
+fn answers(perform: Perform, factor: u64, nodes: usize, calls: &[Call]) -> Vec<u64> {
     let mut answers = vec![0; calls.len()];
-    C::perform(factor, nodes, calls, &mut answers);
+    perform(factor, nodes, calls, &mut answers);
     answers
 }
 
@@ -242,6 +290,8 @@ struct Seen {
     calls: u64,
     edges: u64,
     vectors: u64,
+    /// With the bases that `both_initialised` gives.
+    from_slave: u64,
     refusals: [u64; 10],
 }
 
@@ -252,72 +302,67 @@ impl Seen {
             match call.kind {
                 _ if answer >> 63 == 1 => self.refusals[answer as usize & 15] += 1,
                 0 => self.edges += answer,
-                3 if answer % 8 != 7 => self.vectors += 1,
+                3 if answer % 8 != 7 => {
+                    self.vectors += 1;
+                    self.from_slave += u64::from(answer & 0xF8 == 0x70);
+                }
                 _ => {}
             }
         }
     }
 }
 
-fn compare(
-    what: &str,
-    seed: u64,
-    factor: u64,
-    nodes: usize,
-    calls: &[Call],
-    left: (&str, &[u64]),
-    right: (&str, &[u64]),
-) -> bool {
-    let Some(place) = left.1.iter().zip(right.1).position(|(a, b)| a != b) else {
+/// Whether all boards give the same answers; they are the first one's.
+fn check_calls(kind: &Kind, seed: u64, factor: u64, nodes: usize, calls: &[Call], seen: &mut Seen) -> bool {
+    let all: Vec<Vec<u64>> = kind
+        .boards
+        .iter()
+        .map(|&(_, perform)| answers(perform, factor, nodes, calls))
+        .collect();
+    seen.count(calls, &all[0]);
+    let Some(place) = (0..calls.len()).find(|&place| all.iter().any(|some| some[place] != all[0][place]))
+    else {
         return true;
     };
-    println!("DIFFERENCE in {what} sequence {seed}, factor {factor}, {nodes} nodes, at call {place}:");
+    println!(
+        "DIFFERENCE: {}, sequence {seed}, factor {factor}, {nodes} nodes, call {place}, after these:",
+        kind.name
+    );
     for call in &calls[place.saturating_sub(200)..=place] {
         println!("  {call:?}");
     }
-    println!(
-        "  {} answers {:#x}, {} answers {:#x}",
-        left.0, left.1[place], right.0, right.1[place]
-    );
+    for ((name, _), some) in kind.boards.iter().zip(&all) {
+        println!("  {name} answers {:#x}", some[place]);
+    }
     false
 }
 
-fn check_board(seed: u64, long: bool, seen: &mut Seen) -> bool {
-    let calls = script(seed, long);
+fn check_sequence(kind: &Kind, seed: u64, seen: &mut Seen) -> bool {
+    let calls = script(seed, kind);
     let mut random = Random::new(!seed);
     let factor = match random.below(4) {
-        _ if long => random.one_of(&[12, 12, 12, 64, 5]),
+        _ if kind.long => random.one_of(&[12, 12, 12, 64, 5]),
         0 => random.below(70),
         1 => random.one_of(&[0, 1, 2, 64, 65]),
         _ => 12,
     };
     let nodes = random.one_of(&[0, 1, 2, 3, 5, 8, 256, 4096]);
-    let proved = answers::<Proved>(factor, nodes, &calls);
-    let events = answers::<Events>(factor, nodes, &calls);
-    seen.count(&calls, &proved);
-    let what = if long { "long" } else { "short" };
-    let same = compare(
-        what,
-        seed,
-        factor,
-        nodes,
-        &calls,
-        ("proved", &proved),
-        ("event-driven", &events),
-    );
-    if long || !same {
-        return same;
-    }
-    let ticking = answers::<Ticking>(factor, nodes, &calls);
-    compare(
-        what,
-        seed,
-        factor,
-        nodes,
-        &calls,
-        ("proved", &proved),
-        ("ticking", &ticking),
-    )
+    check_calls(kind, seed, factor, nodes, &calls, seen)
+}
+
+/// All nodes taken, and a few more writes.
+fn check_full_queue(kind: &Kind, seen: &mut Seen) -> bool {
+    let mut random = Random::new(1);
+    let mut calls: Vec<Call> = (0..4_100)
+        .map(|_| Call::queue(1 + random.below(3_000), random.one_of(&PORTS), random.byte()))
+        .collect();
+    calls.extend([
+        Call::advance(1_500),
+        Call::queue(1_501, 0x21, 0x55),
+        Call::advance(1_500),
+        Call::read(0x21),
+    ]);
+    check_calls(kind, 0, 12, 4_200, &calls, seen)
 }
 
 fn check_timer(seed: u64) -> bool {
@@ -354,70 +399,33 @@ fn check_timer(seed: u64) -> bool {
     same
 }
 
-/// All nodes taken, and one more write.
-fn check_full_queue() -> bool {
-    let mut random = Random::new(1);
-    let mut calls: Vec<Call> = (0..4_100)
-        .map(|_| Call::queue(1 + random.below(3_000), random.one_of(&PORTS), random.byte()))
-        .collect();
-    calls.extend([
-        Call::advance(1_500),
-        Call::queue(1_501, 0x21, 0x55),
-        Call::advance(1_500),
-        Call::read(0x21),
-    ]);
-    let proved = answers::<Proved>(12, 4_200, &calls);
-    let events = answers::<Events>(12, 4_200, &calls);
-    let ticking = answers::<Ticking>(12, 4_200, &calls);
-    proved[..4_100]
-        .iter()
-        .filter(|&&answer| answer >> 63 == 1)
-        .count()
-        == 4
-        && compare(
-            "full queue",
-            0,
-            12,
-            4_200,
-            &calls,
-            ("proved", &proved),
-            ("event-driven", &events),
-        )
-        && compare(
-            "full queue",
-            0,
-            12,
-            4_200,
-            &calls,
-            ("proved", &proved),
-            ("ticking", &ticking),
-        )
-}
-
 pub fn run() -> ExitCode {
-    let mut short = Seen::default();
-    let mut long = Seen::default();
-    let same = (0..SHORT_SEQUENCES).all(|seed| check_board(seed, false, &mut short))
-        && (0..LONG_SEQUENCES).all(|seed| check_board(seed, true, &mut long))
-        && (0..TIMERS).all(check_timer)
-        && check_full_queue();
-    for (what, count, seen) in [
-        ("all three", SHORT_SEQUENCES, short),
-        ("proved and event-driven", LONG_SEQUENCES, long),
-    ] {
+    for kind in &KINDS {
+        let mut seen = Seen::default();
+        let same = (0..kind.sequences).all(|seed| check_sequence(kind, seed, &mut seen))
+            && check_full_queue(kind, &mut seen);
+        if !same {
+            return ExitCode::FAILURE;
+        }
+        let names: Vec<&str> = kind.boards.iter().map(|&(name, _)| name).collect();
         println!(
-            "{what}: {count} sequences, {} calls, {} edges, {} vectors of requests, refusals 6 to 9: {:?}",
+            "{}: {} agree on {} sequences",
+            kind.name,
+            names.join(", "),
+            kind.sequences + 1
+        );
+        println!(
+            "  {} calls, {} edges, {} vectors of requests, {} of them from the slave, refusals 6 to 9: {:?}",
             seen.calls,
             seen.edges,
             seen.vectors,
+            seen.from_slave,
             &seen.refusals[6..]
         );
     }
-    println!("all three: {TIMERS} timers alone, and one full queue");
-    if same {
-        println!("no difference");
-        ExitCode::SUCCESS
-    } else {
-        ExitCode::FAILURE
+    if !(0..TIMERS).all(check_timer) {
+        return ExitCode::FAILURE;
     }
+    println!("the timer alone: proved, event-driven, ticking agree on {TIMERS} timers");
+    ExitCode::SUCCESS
 }

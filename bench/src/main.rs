@@ -11,8 +11,8 @@ mod workloads;
 
 use std::process::ExitCode;
 
-type Events = workloads::Rust<events::TimerBoard, events::Timer>;
-type Ticking = workloads::Rust<ticking::TimerBoard, ticking::Timer>;
+type Events = workloads::Rust<events::OneTimer, events::Timer>;
+type Ticking = workloads::Rust<ticking::OneTimer, ticking::Timer>;
 
 fn main() -> ExitCode {
     let arguments: Vec<String> = std::env::args().skip(1).collect();

@@ -4,8 +4,8 @@ use crate::call::{Call, HORIZON};
 use crate::check::both_initialised;
 use crate::proved::{self, Proved};
 use crate::random::Random;
-use crate::workloads::{self, Contestant};
-use crate::{Events, Ticking};
+use crate::workloads::{self, Contestant, Perform};
+use crate::{Events, Ticking, events, ticking};
 use std::process::ExitCode;
 use std::time::Instant;
 
@@ -94,11 +94,11 @@ fn advances(row: Advances) -> Row {
     }
 }
 
-fn scripted<C: Contestant>(calls: &[Call], times: u64) -> Timed {
+fn scripted(perform: Perform, calls: &[Call], times: u64) -> Timed {
     let mut answers = vec![0; calls.len()];
     timed(|| {
         (0..times).fold(0u64, |sum, _| {
-            C::perform(12, 4_096, calls, &mut answers);
+            perform(12, 4_096, calls, &mut answers);
             answers
                 .iter()
                 .fold(sum, |sum, answer| sum.wrapping_mul(31).wrapping_add(*answer))
@@ -110,17 +110,17 @@ fn scripted<C: Contestant>(calls: &[Call], times: u64) -> Timed {
 fn script(workload: &str, calls: &[Call]) -> Row {
     const TIMES: u64 = 20;
     const WRITES: f64 = 4_096.0;
-    let proved = scripted::<Proved>(calls, TIMES);
-    let events = scripted::<Events>(calls, TIMES);
-    let ticking = scripted::<Ticking>(calls, 1);
-    same(workload, proved.sum, events.sum);
-    same(workload, ticking.sum, scripted::<Proved>(calls, 1).sum);
+    let by_proved = scripted(proved::perform, calls, TIMES);
+    let by_events = scripted(workloads::perform::<events::OneTimer>, calls, TIMES);
+    let by_ticking = scripted(workloads::perform::<ticking::OneTimer>, calls, 1);
+    same(workload, by_proved.sum, by_events.sum);
+    same(workload, by_ticking.sum, scripted(proved::perform, calls, 1).sum);
     Row {
         workload: workload.to_string(),
         unit: "ns per write",
-        proved: proved.seconds / (TIMES as f64 * WRITES),
-        events: events.seconds / (TIMES as f64 * WRITES),
-        ticking: Some(ticking.seconds / WRITES),
+        proved: by_proved.seconds / (TIMES as f64 * WRITES),
+        events: by_events.seconds / (TIMES as f64 * WRITES),
+        ticking: Some(by_ticking.seconds / WRITES),
         scaled: false,
     }
 }

@@ -565,19 +565,28 @@ impl<D0: Device, D1: Device, D2: Device, D3: Device> Board<D0, D1, D2, D3> {
     }
 }
 
-pub type TimerBoard = Board<Divider<Timer>, Empty, Empty, Empty>;
+fn timer_behind(factor: u64) -> Divider<Timer> {
+    Divider::new(factor, Timer::power_on())
+}
 
-impl call::Board for TimerBoard {
-    fn with_timer(factor: u64, nodes: usize) -> Self {
-        Board::new(
-            Divider::new(factor, Timer::power_on()),
-            Empty,
-            Empty,
-            Empty,
-            nodes,
-        )
+pub type OneTimer = Board<Divider<Timer>, Empty, Empty, Empty>;
+
+impl call::Fitted for OneTimer {
+    fn fitted(factor: u64, nodes: usize) -> Self {
+        Board::new(timer_behind(factor), Empty, Empty, Empty, nodes)
     }
+}
 
+pub type FourTimers = Board<Divider<Timer>, Divider<Timer>, Divider<Timer>, Divider<Timer>>;
+
+impl call::Fitted for FourTimers {
+    fn fitted(factor: u64, nodes: usize) -> Self {
+        let [d0, d1, d2, d3] = [0, 1, 2, 3].map(|more| timer_behind(factor.wrapping_add(more)));
+        Board::new(d0, d1, d2, d3, nodes)
+    }
+}
+
+impl<D0: Device, D1: Device, D2: Device, D3: Device> call::Board for Board<D0, D1, D2, D3> {
     fn advance(&mut self, n: u64) -> Result<u64, u8> {
         if n > HORIZON {
             return Err(LONG_ADVANCE);

@@ -1,13 +1,11 @@
 //! What is measured, for each contestant: the same loops as in the static library.
 
-use crate::call::{Board, Call, MOST_NODES, QueuedWrite, Timer};
+use crate::call::{Board, Call, Fitted, MOST_NODES, QueuedWrite, Timer};
 use std::cmp::Reverse;
 use std::collections::BinaryHeap;
 use std::marker::PhantomData;
 
 pub trait Contestant {
-    /// Performs the calls on a new board, and stores each one's answer.
-    fn perform(factor: u64, nodes: usize, calls: &[Call], answers: &mut [u64]);
     /// Performs the calls on a new board, and then advances it by `n` for so many times. Answers the sum of the advances' answers.
     fn advances(calls: &[Call], n: u64, times: u64) -> u64;
     /// Programs channel 0 of a timer, skips `n` for so many times, and answers how often OUT was high then.
@@ -48,18 +46,22 @@ fn programmed<T: Timer>(word: u8, count: u16) -> T {
     timer
 }
 
-impl<B: Board, T: Timer> Contestant for Rust<B, T> {
-    #[inline(never)]
-    fn perform(factor: u64, nodes: usize, calls: &[Call], answers: &mut [u64]) {
-        let mut board = B::with_timer(factor, nodes);
-        for (call, answer) in calls.iter().zip(answers) {
-            *answer = perform_one(&mut board, call);
-        }
-    }
+/// A way to do that: with the divider's factor, the number of nodes, and places for the answers.
+pub type Perform = fn(u64, usize, &[Call], &mut [u64]);
 
+/// Performs the calls on a new board with so many nodes, and stores each one's answer.
+#[inline(never)]
+pub fn perform<B: Fitted>(factor: u64, nodes: usize, calls: &[Call], answers: &mut [u64]) {
+    let mut board = B::fitted(factor, nodes);
+    for (call, answer) in calls.iter().zip(answers) {
+        *answer = perform_one(&mut board, call);
+    }
+}
+
+impl<B: Fitted, T: Timer> Contestant for Rust<B, T> {
     #[inline(never)]
     fn advances(calls: &[Call], n: u64, times: u64) -> u64 {
-        let mut board = B::with_timer(12, MOST_NODES);
+        let mut board = B::fitted(12, MOST_NODES);
         for call in calls {
             perform_one(&mut board, call);
         }
