@@ -54,10 +54,10 @@ module _ {E : Type 0} {before : E → E → Bool} (o : IsStrictTotalOrder before
     | inr ne ↦ let e : k ≡ s = omega arith in rw (e, ← get_or_read xs c x hc is_x d, ← get_or_read xs s y hs is_y d) h
   ])
 
-  pub left_first : (xs : List E) (i r k : ℕ) (x y : E) → r < length xs → r ≡ i * 2 + 1 + 1 → x ≡ get_or xs r x → y ≡ get_or xs (i * 2 + 1) y → before x y ≡ false → i * 2 + 1 ≤ k → k ≤ i * 2 + 2 → no_earlier before xs k (i * 2 + 1) ≡ true
+  left_first : (xs : List E) (i r k : ℕ) (x y : E) → r < length xs → r ≡ i * 2 + 1 + 1 → x ≡ get_or xs r x → y ≡ get_or xs (i * 2 + 1) y → before x y ≡ false → i * 2 + 1 ≤ k → k ≤ i * 2 + 2 → no_earlier before xs k (i * 2 + 1) ≡ true
   left_first xs i r k x y long right is_x is_y h a b = of_two xs i (i * 2 + 1) r k y x (omega arith) long is_y is_x h a b (omega arith) (omega arith) (omega arith)
 
-  pub right_first : (xs : List E) (i r k : ℕ) (x y : E) → r < length xs → r ≡ i * 2 + 1 + 1 → x ≡ get_or xs r x → y ≡ get_or xs (i * 2 + 1) y → before x y ≡ true → i * 2 + 1 ≤ k → k ≤ i * 2 + 2 → no_earlier before xs k r ≡ true
+  right_first : (xs : List E) (i r k : ℕ) (x y : E) → r < length xs → r ≡ i * 2 + 1 + 1 → x ≡ get_or xs r x → y ≡ get_or xs (i * 2 + 1) y → before x y ≡ true → i * 2 + 1 ≤ k → k ≤ i * 2 + 2 → no_earlier before xs k r ≡ true
   right_first xs i r k x y long right is_x is_y h a b = of_two xs i r (i * 2 + 1) k x y long (omega arith) is_x is_y (one_way o h) a b (omega arith) (omega arith) (omega arith)
 
   -- the number of the child that comes first, where there are two
@@ -157,8 +157,6 @@ module _ {E : Type 0} {before : E → E → Bool} (o : IsStrictTotalOrder before
   pub sink_rests : (entry : E) (n : ℕ) (xs ys : List E) (at child : ℕ) (below : E) → length ys ≡ n → child < length ys → Earliest before ys (length ys) at child → below ≡ get_or ys child below → false ≡ before below entry → Sinking before entry n xs ys at → heaped before (set ys at entry) (length (set ys at entry)) ≡ true
   sink_rests entry n xs ys at child below all in' first is t = sink_ends entry n xs ys at all
       (λ k d a b f. chain o (subst (λ w. before w entry ≡ false) (get_or_read ys child below in' is d) (sym t)) (told before ys k child d (omega arith) (omega arith) (first k a b (omega arith))))
-
-pub ruleset child_facts = (left_alone, left_first, right_first)
 
 pub ruleset rise_facts = (rise_tops, rise_rests)
 

@@ -49,7 +49,6 @@ pub fn sink<E: Entry>(nodes: &mut [E], sinking: E)
 }
 
 // Of the children of node `at`, the one that comes first.
-#[tactic(auto, using(crate::proofs::Sifts::child_facts))]
 fn earliest_child<E: Entry>(nodes: &[E], at: usize) -> usize
     requires { at < length nodes.now / 2 }
     ensures child { (at * 2 + 1 ≤ result) × (result ≤ at * 2 + 2) × (result < length nodes.now) }
