@@ -1,5 +1,5 @@
 -- What the deadlines tell of the ticks ahead.
-use Rattle.std.proofs.Common.{◌≡◌, ℕ, zero, suc, ◌+◌, ◌-◌, ◌<◌, ◌≤◌, Bool, true, false, cond, leb, List, [], ◌∷◌, get_or, Some, None, Option, refl, sym, ap, ◌∙◌, subst, inl, inr, le-leb, arith}
+use Rattle.std.proofs.Common.{◌≡◌, ℕ, zero, suc, ◌+◌, ◌-◌, ◌<◌, ◌≤◌, Bool, true, false, cond, leb, List, [], ◌∷◌, length, get_or, Some, None, Option, refl, sym, ap, ◌∙◌, subst, inl, inr, le-leb, arith}
 use Rattle.std.proofs.lemmas.Bool.{cases_Bool, cases_eq, lt-leb}
 use Rattle.std.proofs.lemmas.Bool.Decides.{nat_tests}
 use Rattle.agenda.specs.Waiting.{first_of}
@@ -10,7 +10,8 @@ use Rattle.rules.specs.Board.{Fitting}
 use Rattle.rules.specs.TickLaws.{ticks_add}
 use Rattle.slots.specs.Slots.{States, slot_number, levels_of, ticked, Still, AllStill, Foretold}
 use Rattle.slots.specs.declared.fitted.Slot.{Slot}
-use Rattle.board.specs.Deadlines.{comes_before, NoneBefore, at_tick, all_at, with_announced, Watched}
+use Rattle.agenda.proofs.Bag.{length_insert}
+use Rattle.board.specs.Deadlines.{comes_before, NoneBefore, at_tick, with_announced, Watched}
 use Rattle.board.specs.declared.board.deadlines.Deadline.{Deadline}
 
 -- Four levels that are the same one by one are the same.
@@ -51,13 +52,6 @@ none_before_first t (x ∷ ds) d leads is early n = let same : d ≡ x = cc in l
 pub first_ahead : (t : ℕ) (ds : List Deadline) (d : Deadline) → ((n : ℕ) → NoneBefore n t ds) → Some d ≡ first_of ds → t ≤ d.tick
 first_ahead t [] d none is = cc
 first_ahead t (x ∷ ds) d none is = let same : x ≡ d = cc in subst (λ y. t ≤ y.tick) same ((none (slot_number x.slot)).0 refl)
-
-none_of_all : (n t tick : ℕ) → n < 4 → NoneBefore n t (all_at tick) → t ≤ tick
-none_of_all zero t tick few none = none.0 refl
-none_of_all (suc zero) t tick few none = none.1.0 refl
-none_of_all (suc (suc zero)) t tick few none = none.1.1.0 refl
-none_of_all (suc (suc (suc zero))) t tick few none = none.1.1.1.0 refl
-none_of_all (suc (suc (suc (suc n)))) t tick few none = absurd (omega arith)
 
 -- How many deadlines have come.
 abbrev pub come : ℕ → List Deadline → ℕ
@@ -100,21 +94,35 @@ module _ {S0 S1 S2 S3 : Type 0} (f : Fitting S0 S1 S2 S3) where
       let before : now + k ≤ now + a = (none_of_insert (slot_number slot) (now + k) (at_tick (now + a) slot) ds none).0 refl in
       still_less (slot_number slot) k a s (omega arith) told.2
 
+  -- An announcement of another slot changes nothing for slot n.
+  pub other_watched : (n ahead now : ℕ) (slot : Slot) (announced : Option ℕ) (ds : List Deadline) (s : States S0 S1 S2 S3) → Watched f n ahead now ds s → Watched f n ahead now (with_announced now slot announced ds) s
+  other_watched n ahead now slot announced ds s watched = λ k within none. watched k within (none_of_announced n (now + k) now slot announced ds none)
+
   pub renewed_watched : (n ahead now : ℕ) (d : Deadline) (announced : Option ℕ) (old ds new : List Deadline) (s : States S0 S1 S2 S3) → ahead ≤ horizon → Foretold f (slot_number d.slot) announced s
       → old ≡ d ∷ ds → new ≡ with_announced now d.slot announced ds → Watched f n ahead now old s → Watched f n ahead now new s
   renewed_watched n ahead now d announced old ds new s near told was is watched = subst (λ l. Watched f n ahead now l s) (sym is) (elim (cases_eq n (slot_number d.slot)) [
     | inl same ↦ subst (λ m. Watched f m ahead now (with_announced now d.slot announced ds) s) (sym same) (announced_watched now ahead d.slot announced ds s near told)
-    | inr other ↦ others other
+    | inr other ↦ other_watched n ahead now d.slot announced ds s (λ k within none. watched k within (subst (NoneBefore n (now + k)) (sym was) ((λ same. absurd (other (sym same))), none)))
+  ])
+
+  -- Of the first slots that are watched there is one more, when the next one has announced.
+  pub next_watched : (i n ahead now : ℕ) (slot : Slot) (announced : Option ℕ) (old new : List Deadline) (s : States S0 S1 S2 S3) → slot_number slot ≡ i → n < i + 1 → ahead ≤ horizon → Foretold f (slot_number slot) announced s
+      → new ≡ with_announced now slot announced old → (n < i → Watched f n ahead now old s) → Watched f n ahead now new s
+  next_watched i n ahead now slot announced old new s is few near told grown watched = subst (λ l. Watched f n ahead now l s) (sym grown) (elim (cases_eq n (slot_number slot)) [
+    | inl same ↦ subst (λ m. Watched f m ahead now (with_announced now slot announced old) s) (sym same) (announced_watched now ahead slot announced old s near told)
+    | inr other ↦ other_watched n ahead now slot announced old s (watched (before_it n i (slot_number slot) is few other))
   ])
     where
-      others : (n ≡ slot_number d.slot → ⊥) → Watched f n ahead now (with_announced now d.slot announced ds) s
-      others other = λ k within none.
-          let before : NoneBefore n (now + k) (d ∷ ds) = ((λ same. absurd (other (sym same))), none_of_announced n (now + k) now d.slot announced ds none) in
-          watched k within (subst (NoneBefore n (now + k)) (sym was) before)
+      before_it : (n i j : ℕ) → j ≡ i → n < i + 1 → (n ≡ j → ⊥) → n < i
+      before_it n i j is few other = elim (cases_eq n i) [
+        | inl same ↦ absurd (other (same ∙ sym is))
+        | inr differ ↦ omega arith
+      ]
 
-  -- Where every slot is due now, nothing has to be known of one.
-  pub due_watched : (n ahead now : ℕ) (s : States S0 S1 S2 S3) → n < 4 → Watched f n ahead now (all_at now) s
-  due_watched n ahead now s few = λ k within none j early. let at : now + k ≤ now = none_of_all n (now + k) now few none in absurd (omega arith)
+  -- An announcement takes one node at most.
+  pub few_announced : (now : ℕ) (slot : Slot) (announced : Option ℕ) (ds new : List Deadline) → new ≡ with_announced now slot announced ds → length new ≤ length ds + 1
+  few_announced now slot None ds new is = omega (arith, ap length is)
+  few_announced now slot (Some k) ds new is = omega (arith, ap length is, length_insert comes_before (at_tick (now + k) slot) ds)
 
   ticked_add : (k j : ℕ) (s : States S0 S1 S2 S3) → ticked f (k + j) s ≡ ticked f j (ticked f k s)
   ticked_add k j s = λ i. record {

@@ -49,10 +49,6 @@ first_before end (d ∷ ds) = min end d.tick
 abbrev pub at_tick : ℕ → Slot → Deadline
 at_tick tick slot = record { tick = tick; slot = slot }
 
--- Every slot's deadline at the same tick.
-abbrev pub all_at : ℕ → List Deadline
-all_at tick = at_tick tick Zero ∷ at_tick tick One ∷ at_tick tick Two ∷ at_tick tick Three ∷ []
-
 -- The deadlines with that of a slot which has announced for how many ticks its level stays.
 abbrev pub with_announced : ℕ → Slot → Option ℕ → List Deadline → List Deadline
 with_announced now slot None ds = ds

@@ -1,9 +1,11 @@
 // The passing of time: jumps to the ticks on which something may happen.
-ghost use Rattle.std.specs.Prelude.{◌≡◌, ◌+◌, ◌-◌, ◌^◌, ◌<◌, ◌≤◌};
+ghost use Rattle.std.specs.Prelude.{◌≡◌, ℕ, ◌+◌, ◌-◌, ◌^◌, ◌<◌, ◌≤◌};
 ghost use Rattle.rules.specs.Device.{horizon};
 ghost use Rattle.rules.specs.Board as rules;
 ghost use Rattle.board_laws.specs.Jump.{Idle};
 ghost use Rattle.board.specs.Steps.{CarriesNext, CarriesOut, Jumps, Arrives, Runs, to_write};
+ghost use Rattle.agenda.specs.Waiting.{waiting};
+ghost use Rattle.board.specs.Deadlines.{comes_before, Watched};
 ghost use Rattle.board.specs.Answers.{of_advance};
 ghost use Rattle.board.specs.View.{view, Does};
 
@@ -77,6 +79,14 @@ impl<'a, F: Slots> Board<'a, F> {
         }
     }
 
+    // Has every slot announce.
+    fn deadlines<'n>(&self, nodes: &'n mut [Deadline; 4]) -> Deadlines<'n>
+        requires time { self.now.time < 2 ^ 62 }
+        ensures { (n ahead : ℕ) → n < 4 → ahead ≤ horizon → Watched F.fitting n ahead self.now.time (waiting comes_before result.agenda) (F.states self.now.ports.slots) }
+    {
+        Deadlines::new(nodes, &self.ports.slots, self.time)
+    }
+
     // Lets ticks pass of which no write is due before the last, and answers their edges: in one jump where no level changes, and else
     // from deadline to deadline.
     fn run_stretch(&mut self, ticks: u64) -> u64
@@ -91,7 +101,7 @@ impl<'a, F: Slots> Board<'a, F> {
         }
         let end = self.time + HORIZON;
         let mut nodes = [Deadline::UNUSED; 4];
-        let mut deadlines = Deadlines::new(&mut nodes, self.time);
+        let mut deadlines = self.deadlines(&mut nodes);
         let mut left = ticks;
         let mut edges = 0;
         while left > 0 {

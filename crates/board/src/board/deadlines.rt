@@ -1,10 +1,10 @@
 // The deadlines of the slots, by which time jumps.
-ghost use Rattle.std.specs.Prelude.{◌≡◌, ℕ, ◌+◌, ◌^◌, ◌<◌, ◌≤◌, Option, IsSome};
+ghost use Rattle.std.specs.Prelude.{◌≡◌, ℕ, ◌+◌, ◌^◌, ◌<◌, ◌≤◌, length, Option, IsSome};
 ghost use Rattle.agenda.specs.Nodes.{usable};
 ghost use Rattle.agenda.specs.Waiting.{waiting};
 ghost use Rattle.rules.specs.Device.{horizon};
 ghost use Rattle.slots.specs.Slots.{slot_number, Foretold};
-ghost use Rattle.board.specs.Deadlines.{comes_before, in_order, NoneBefore, first_before, all_at, with_announced, TakesDue, Watched};
+ghost use Rattle.board.specs.Deadlines.{comes_before, in_order, NoneBefore, first_before, with_announced, TakesDue, Watched};
 
 use agenda::{Agenda, Entry};
 use slots::{Slot, Slots};
@@ -42,15 +42,18 @@ pub(super) struct Deadlines<'n> {
 }
 
 impl<'n> Deadlines<'n> {
-    // Every slot is due now, and so announces before time passes.
-    pub(super) fn new(nodes: &'n mut [Deadline; 4], now: u64) -> Deadlines<'n>
-        ensures { waiting comes_before result.agenda ≡ all_at now }
+    // Has every slot announce.
+    pub(super) fn new<F: Slots>(nodes: &'n mut [Deadline; 4], slots: &F, now: u64) -> Deadlines<'n>
+        requires time { now < 2 ^ 62 }
+        ensures watched { (n ahead : ℕ) → n < 4 → ahead ≤ horizon → Watched F.fitting n ahead now (waiting comes_before result.agenda) (F.states slots.now) }
     {
-        let mut agenda = Agenda::new(nodes);
+        let mut deadlines = Deadlines {
+            agenda: Agenda::new(nodes),
+        };
         for slot in Slot::ALL {
-            agenda.insert(Deadline { tick: now, slot }).unwrap();
+            deadlines.announce(slots, slot, now);
         }
-        Deadlines { agenda }
+        deadlines
     }
 
     // Has each slot whose deadline has come announce again.
@@ -79,7 +82,8 @@ impl<'n> Deadlines<'n> {
     fn announce<F: Slots>(&mut self, slots: &F, slot: Slot, now: u64)
         requires time { now < 2 ^ 62 }
         requires room { self.old.agenda.len < usable self.old.agenda.nodes.now }
-        ensures { (announced : Option ℕ) × Foretold F.fitting (slot_number slot) announced (F.states slots.now) × (waiting comes_before self.new.agenda ≡ with_announced now slot announced (waiting comes_before self.old.agenda)) }
+        ensures announced { (announced : Option ℕ) × Foretold F.fitting (slot_number slot) announced (F.states slots.now) × (waiting comes_before self.new.agenda ≡ with_announced now slot announced (waiting comes_before self.old.agenda)) }
+        ensures nodes { length self.new.agenda.nodes.now ≡ length self.old.agenda.nodes.now }
     {
         if let Some(ticks) = slots.announce(slot) {
             let tick = now + ticks;

@@ -9,7 +9,7 @@ use Rattle.board.specs.View.{view}
 use Rattle.board.specs.Steps.{Progress, Arrives, ticking}
 use Rattle.board.proofs.Called.{few_pending}
 use Rattle.board.proofs.Progressing.{progress_both, same_end, jumped, handed_alone, settled, ran_out}
-use Rattle.board.proofs.Stillness.{due_watched, later_watched, still_before}
+use Rattle.board.proofs.Stillness.{later_watched, still_before}
 use Rattle.board.proofs.board.Board.run_stretch.Goals as goal
 
 pub returns-then-self-ticks : goal.returns-then-self-ticks
@@ -26,10 +26,7 @@ loop-left-init g c = record {
   passed = search rules;
   fewer = omega arith;
   idle = c.requires.idle;
-  watched = λ more n few.
-      let board = c.args.self.now in
-      let slots = g.F.Slots.states board.ports.slots in
-      subst (λ ds. Watched g.F.Slots.fitting n (board.time + horizon - board.time) board.time ds slots) (sym c.new-deadlines.ensures) (due_watched g.F.Slots.fitting n (board.time + horizon - board.time) board.time slots few);
+  watched = λ more n few. c.deadlines-deadlines.ensures n (c.args.self.now.time + horizon - c.args.self.now.time) few (omega arith);
 }
 
 pub renew-requires : goal.renew-requires

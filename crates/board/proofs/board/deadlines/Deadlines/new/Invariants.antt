@@ -1,11 +1,13 @@
-use Rattle.std.proofs.Common.{◌≡◌, length, take}
+use Rattle.std.proofs.Common.{◌≡◌, ℕ, ◌<◌, ◌≤◌, length}
 use Rattle.agenda.specs.Waiting.{waiting}
-use Rattle.board.specs.Deadlines.{comes_before, all_at}
+use Rattle.rules.specs.Device.{horizon}
+use Rattle.board.specs.Deadlines.{comes_before, Watched}
 use Rattle.board.proofs.board.deadlines.Deadlines.new.Given as goal
 
 abbrev pub invariant-loop-slot : goal.invariant-loop-slot
-invariant-loop-slot l =
+invariant-loop-slot g l =
     record {
-      four : length l.agenda.nodes.now ≡ 4;
-      due : waiting comes_before l.agenda ≡ take l.slot-index (all_at l.now);
+      four : length l.deadlines.agenda.nodes.now ≡ 4;
+      few : length (waiting comes_before l.deadlines.agenda) ≤ l.slot-index;
+      watched : (n ahead : ℕ) → n < l.slot-index → ahead ≤ horizon → Watched g.F.Slots.fitting n ahead l.now (waiting comes_before l.deadlines.agenda) (g.F.Slots.states l.slots);
     }
