@@ -8,7 +8,7 @@ use Rattle.std.proofs.lemmas.Str.Parse.{digit_from_value}
 use Rattle.commands.specs.Numbers.{is_hexadecimal, base_of, digits_of, is_numeral, value_of}
 use Rattle.commands.specs.Meaning as meaning
 use Rattle.commands.specs.Meaning.{Reads}
-use Rattle.commands.specs.Grammar.{Writes, Write, name_of, numbers_of}
+use Rattle.commands.specs.Grammar.{Writes, WriteEach, name_of, numbers_of}
 use Rattle.commands.specs.declared.command.Command.{Command}
 use Rattle.commands.specs.declared.command.Command.TheVariants.{Outb, Inb, ClockStep, Iack, Queue, State, Help, Quit}
 use Rattle.commands.specs.declared.command.Unreadable.{Unreadable}
@@ -75,9 +75,9 @@ number_writes limit (word ∷ others) n rest h =
 
 -- The words of a command: its name, and words that write its numbers.
 abbrev pub SpelledBy : Command → List (List ℕ) → Type 0
-SpelledBy c words = (arguments : List (List ℕ)) × (words ≡ name_of c ∷ arguments) × Write arguments (numbers_of c)
+SpelledBy c words = (arguments : List (List ℕ)) × (words ≡ name_of c ∷ arguments) × WriteEach arguments (numbers_of c)
 
-pub spelled_reads : (c : Command) (arguments : List (List ℕ)) → Write arguments (numbers_of c) → meaning.command (name_of c ∷ arguments) ≡ Ok (c, [])
+pub spelled_reads : (c : Command) (arguments : List (List ℕ)) → WriteEach arguments (numbers_of c) → meaning.command (name_of c ∷ arguments) ≡ Ok (c, [])
 unfolding meaning.command meaning.named meaning.and_then
 spelled_reads (Outb port byte) [] h = absurd h
 spelled_reads (Outb port byte) (p ∷ []) h = absurd h.2
