@@ -15,7 +15,8 @@ use std::env;
 use std::io::{self, BufRead, BufReader, Eprint, Write};
 use std::process::ExitCode;
 
-const USAGE: &str = "usage: console standard|pulses [NODES]\nReads commands from standard input, one a line, and answers each with a line.";
+const USAGE: &str =
+    "usage: console standard|pulses [NODES]\nReads commands from standard input, one a line, and answers each with a line.";
 
 // How many nodes the queue has where no number is given.
 const NODES: u64 = 256;

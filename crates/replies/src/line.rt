@@ -38,7 +38,8 @@ impl Line {
     }
 
     pub fn as_bytes(&self) -> &[u8]
-        ensures { result.now ≡ bytes_of self.now }
+        ensures bytes { result.now ≡ bytes_of self.now }
+        ensures fits { length result.now ≤ LONGEST_LINE }
     {
         self.bytes.as_slice()
     }
