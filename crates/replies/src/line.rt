@@ -50,7 +50,7 @@ impl Line {
         ensures bytes { bytes_of self.new ≡ bytes_of self.old ++ text.now }
         ensures len { length (bytes_of self.new) ≡ length (bytes_of self.old) + length text.now }
     {
-        let _ = self.bytes.try_extend_from_slice(text);
+        self.bytes.try_extend_from_slice(text).unwrap();
     }
 
     fn number(&mut self, n: u64)
