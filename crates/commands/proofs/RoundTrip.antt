@@ -7,7 +7,7 @@ use Rattle.std.proofs.lemmas.Bool.{and_parts, leb-true, ne_eqb, or_from, cond-fa
 use Rattle.std.proofs.lemmas.Fmt.{decimal_is_IsNumeral}
 use Rattle.std.proofs.lemmas.Str.Parse.{digit_from_value}
 use Rattle.commands.specs.Words.{is_blank, words}
-use Rattle.commands.specs.Grammar.{Write, Number, name_of, numbers_of, written_behind, written, Fit}
+use Rattle.commands.specs.Grammar.{WriteEach, Number, name_of, numbers_of, written_behind, written, Fit}
 use Rattle.commands.specs.declared.command.Command.{Command}
 use Rattle.commands.specs.declared.command.Command.TheVariants.{Outb, Inb, ClockStep, Iack, Queue, State, Help, Quit}
 use Rattle.commands.specs.Meaning.{meaning}
@@ -78,7 +78,7 @@ words_written (c ∷ cs) (n ∷ ns) t h =
     words_more c cs 32 (written_behind (decimal n.value) ns) (no_blank (c ∷ cs) t.plain) refl
     ∙ ap (λ ws. (c ∷ cs) ∷ ws) (words_written (decimal n.value) ns (decimal_is_token n.value h.0) h.1)
 
-texts_write : (ns : List Number) → Small ns → Fit ns → Write (texts ns) ns
+texts_write : (ns : List Number) → Small ns → Fit ns → WriteEach (texts ns) ns
 texts_write [] small fit = tt
 texts_write (n ∷ ns) small fit = (inl (decimal_is_IsNumeral n.value small.0), fit.0, texts_write ns small.1 fit.1)
 

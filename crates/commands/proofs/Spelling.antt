@@ -1,5 +1,5 @@
 -- A line means a command just where it is a spelling of it.
-use Rattle.std.proofs.Common.{◌≡◌, ℕ, ◌^◌, ◌<◌, ◌⊎◌, true, false, List, [], ◌∷◌, ◌++◌, take, drop, Ok, Err, Result, codes, bytes_eq, inl, inr, subst, sym, ap, ap₂, ◌∙◌, refl, arith}
+use Rattle.std.proofs.Common.{◌≡◌, ℕ, ◌^◌, true, false, List, [], ◌∷◌, ◌++◌, take, drop, Ok, Err, Result, codes, bytes_eq, inl, inr, subst, sym, ap, ◌∙◌, refl, arith}
 use Rattle.std.specs.Str.Parse.{AllDigits, IsNumeral}
 use Rattle.std.proofs.lemmas.Bool.{and_parts, and_from, and_left, and_right, cases_Bool, lt-ltb, ltb-true, ne_eqb, true≢false}
 use Rattle.std.proofs.lemmas.List.{take-append-drop}
@@ -8,10 +8,11 @@ use Rattle.std.proofs.lemmas.Str.Parse.{digit_from_value}
 use Rattle.commands.specs.Numbers.{is_hexadecimal, base_of, digits_of, is_numeral, value_of}
 use Rattle.commands.specs.Meaning as meaning
 use Rattle.commands.specs.Meaning.{Reads}
-use Rattle.commands.specs.Grammar.{Writes, Write, name_of, numbers_of}
+use Rattle.commands.specs.Grammar.{Writes, WriteEach, Number, of_bits, name_of, numbers_of}
 use Rattle.commands.specs.declared.command.Command.{Command}
 use Rattle.commands.specs.declared.command.Command.TheVariants.{Outb, Inb, ClockStep, Iack, Queue, State, Help, Quit}
 use Rattle.commands.specs.declared.command.Unreadable.{Unreadable}
+use Rattle.commands.specs.declared.command.Unreadable.TheVariants.{MissingWord, NotANumber, TooLarge}
 use Rattle.commands.proofs.Digits.{AllDigits-from_test, test-from_AllDigits, number_small, number_large}
 use Rattle.commands.proofs.Steps.{number_ok, number_err, number_none, unread, large, small, word_case, unread_is, unknown}
 
@@ -51,189 +52,129 @@ numeral_writes word h =
           inl (tested_numeral 10 word numeral, rw plain refl))
     ]
 
-pub writes_number : (limit : ℕ) (word : List ℕ) (rest : List (List ℕ)) (n : ℕ) → Writes word n → n < limit → meaning.number limit (word ∷ rest) ≡ Ok (n, rest)
-writes_number limit word rest n h below =
-    let read = written_numeral word n h in
-    number_ok limit word rest (number_small word limit read.0 (omega (arith, read.1)) ∙ ap (λ m. Ok m) read.1)
+-- ---- numbers, one after the other
 
--- A number that was read: its word writes it, and it fits.
-pub number_writes : (limit : ℕ) (words : List (List ℕ)) (n : ℕ) (rest : List (List ℕ)) → meaning.number limit words ≡ Ok (n, rest) → (word : List ℕ) × (words ≡ word ∷ rest) × Writes word n × (n < limit)
-number_writes limit [] n rest h = (let k = sym (number_none limit) ∙ h in absurd cc)
-number_writes limit (word ∷ others) n rest h =
-    elim (word_case limit word) [
-      | unread other ↦ (let k = sym (number_err limit word others (unread_is limit word other)) ∙ h in absurd cc)
-      | large numeral above ↦ (let k = sym (number_err limit word others (number_large word limit numeral above)) ∙ h in absurd cc)
-      | small numeral under ↦
-          (let k = sym (number_ok limit word others (number_small word limit numeral under)) ∙ h in
-          let pair : ◌≡◌ {A = ℕ × List (List ℕ)} (value_of word, others) (n, rest) = cc in
-          let value : value_of word ≡ n = ap (λ (p : ℕ × List (List ℕ)). p.0) pair in
-          let tail : others ≡ rest = ap (λ (p : ℕ × List (List ℕ)). p.1) pair in
-          (word, ap (λ ws. word ∷ ws) tail, subst (Writes word) value (numeral_writes word numeral), omega arith))
-    ]
+module _ (bits : ℕ) {A : Type 0} (next : ℕ → Reads A) where
+  -- A number that was read: its word writes it, it fits, and so the words in front are those of one more number.
+  taken : (words : List (List ℕ)) (r : A × List (List ℕ)) → meaning.and_then (meaning.number (2 ^ bits)) next words ≡ Ok r → (n : ℕ) × (rest : List (List ℕ)) × (next n rest ≡ Ok r) × ((ns : List Number) → WriteEach rest ns → WriteEach words (of_bits bits n ∷ ns))
+  unfolding meaning.and_then
+  taken [] r h = (let k : Err MissingWord ≡ Ok r = rw (number_none (2 ^ bits), meaning.and_then) at h in absurd cc)
+  taken (word ∷ rest) r h =
+      elim (word_case (2 ^ bits) word) [
+        | unread other ↦ (let k : Err NotANumber ≡ Ok r = rw (number_err (2 ^ bits) word rest (unread_is (2 ^ bits) word other), meaning.and_then) at h in absurd cc)
+        | large numeral above ↦ (let k : Err TooLarge ≡ Ok r = rw (number_err (2 ^ bits) word rest (number_large word (2 ^ bits) numeral above), meaning.and_then) at h in absurd cc)
+        | small numeral under ↦
+            (value_of word, rest, rw (number_ok (2 ^ bits) word rest (number_small word (2 ^ bits) numeral under), meaning.and_then) at h, λ ns each. (numeral_writes word numeral, under, each))
+      ]
+
+  -- And back: where the words in front are those of one more number, it is read.
+  given : (n : ℕ) (ns : List Number) (words : List (List ℕ)) → WriteEach words (of_bits bits n ∷ ns) → (rest : List (List ℕ)) × WriteEach rest ns × (meaning.and_then (meaning.number (2 ^ bits)) next words ≡ next n rest)
+  unfolding meaning.and_then
+  given n ns [] h = absurd h
+  given n ns (word ∷ rest) h =
+      let (numeral, value) = written_numeral word n h.0 in
+      let read = number_ok (2 ^ bits) word rest (number_small word (2 ^ bits) numeral (omega (arith, value, h.1)) ∙ ap (λ m. Ok m) value) in
+      (rest, h.2, rw (read, meaning.and_then))
+
+none_left : (words : List (List ℕ)) → WriteEach words [] → words ≡ []
+none_left [] h = refl
+none_left (word ∷ words) h = absurd h
 
 -- ---- commands
 
--- The words of a command: its name, and words that write its numbers.
-abbrev pub SpelledBy : Command → List (List ℕ) → Type 0
-SpelledBy c words = (arguments : List (List ℕ)) × (words ≡ name_of c ∷ arguments) × Write arguments (numbers_of c)
+pub spelled_reads : (c : Command) (words : List (List ℕ)) → WriteEach words (numbers_of c) → meaning.command (name_of c ∷ words) ≡ Ok (c, [])
+unfolding meaning.command meaning.named
+spelled_reads (Outb port byte) words h =
+    let (more, each, first) = given 16 _ port _ words h in
+    let (rest, last, second) = given 8 _ byte [] more each in
+    first ∙ second ∙ ap (λ ws. Ok (Outb port byte, ws)) (none_left rest last)
+spelled_reads (Inb port) words h =
+    let (rest, last, first) = given 16 _ port [] words h in
+    first ∙ ap (λ ws. Ok (Inb port, ws)) (none_left rest last)
+spelled_reads (ClockStep n) words h =
+    let (rest, last, first) = given 64 _ n [] words h in
+    first ∙ ap (λ ws. Ok (ClockStep n, ws)) (none_left rest last)
+spelled_reads Iack words h = ap (λ ws. Ok (Iack, ws)) (none_left words h)
+spelled_reads (Queue write) words h =
+    let (more, each, first) = given 64 _ write.tick _ words h in
+    let (most, every, second) = given 16 _ write.port _ more each in
+    let (rest, last, third) = given 8 _ write.byte [] most every in
+    first ∙ second ∙ third ∙ ap (λ ws. Ok (Queue write, ws)) (none_left rest last)
+spelled_reads State words h = ap (λ ws. Ok (State, ws)) (none_left words h)
+spelled_reads Help words h = ap (λ ws. Ok (Help, ws)) (none_left words h)
+spelled_reads Quit words h = ap (λ ws. Ok (Quit, ws)) (none_left words h)
 
-pub spelled_reads : (c : Command) (arguments : List (List ℕ)) → Write arguments (numbers_of c) → meaning.command (name_of c ∷ arguments) ≡ Ok (c, [])
-unfolding meaning.command meaning.named meaning.and_then
-spelled_reads (Outb port byte) [] h = absurd h
-spelled_reads (Outb port byte) (p ∷ []) h = absurd h.2
-spelled_reads (Outb port byte) (p ∷ b ∷ []) h =
-    rw (writes_number (2 ^ 16) p (b ∷ []) port h.0 h.1, writes_number (2 ^ 8) b [] byte h.2.0 h.2.1, meaning.command, meaning.named, meaning.and_then)
-spelled_reads (Outb port byte) (p ∷ b ∷ x ∷ xs) h = absurd h.2.2
-spelled_reads (Inb port) [] h = absurd h
-spelled_reads (Inb port) (p ∷ []) h = rw (writes_number (2 ^ 16) p [] port h.0 h.1, meaning.command, meaning.named, meaning.and_then)
-spelled_reads (Inb port) (p ∷ x ∷ xs) h = absurd h.2
-spelled_reads (ClockStep n) [] h = absurd h
-spelled_reads (ClockStep n) (w ∷ []) h = rw (writes_number (2 ^ 64) w [] n h.0 h.1, meaning.command, meaning.named, meaning.and_then)
-spelled_reads (ClockStep n) (w ∷ x ∷ xs) h = absurd h.2
-spelled_reads Iack [] h = refl
-spelled_reads Iack (x ∷ xs) h = absurd h
-spelled_reads (Queue write) [] h = absurd h
-spelled_reads (Queue write) (t ∷ []) h = absurd h.2
-spelled_reads (Queue write) (t ∷ p ∷ []) h = absurd h.2.2
-spelled_reads (Queue write) (t ∷ p ∷ b ∷ []) h =
-    rw (writes_number (2 ^ 64) t (p ∷ b ∷ []) write.tick h.0 h.1, writes_number (2 ^ 16) p (b ∷ []) write.port h.2.0 h.2.1, writes_number (2 ^ 8) b [] write.byte h.2.2.0 h.2.2.1, meaning.command, meaning.named, meaning.and_then)
-spelled_reads (Queue write) (t ∷ p ∷ b ∷ x ∷ xs) h = absurd h.2.2.2
-spelled_reads State [] h = refl
-spelled_reads State (x ∷ xs) h = absurd h
-spelled_reads Help [] h = refl
-spelled_reads Help (x ∷ xs) h = absurd h
-spelled_reads Quit [] h = refl
-spelled_reads Quit (x ∷ xs) h = absurd h
-
--- What was read in two steps was read in each.
-module _ {A B : Type 0} (reads : Reads A) (next : A → Reads B) (words : List (List ℕ)) (r : B × List (List ℕ)) where
-  by_first : (first : Result (A × List (List ℕ)) Unreadable) → reads words ≡ first → meaning.and_then reads next words ≡ Ok r → (a : A) × (rest : List (List ℕ)) × (reads words ≡ Ok (a, rest)) × (next a rest ≡ Ok r)
-  unfolding meaning.and_then
-  by_first (Ok p) e h = (p.0, p.1, e, rw (e, meaning.and_then) at h)
-  by_first (Err f) e h = (let k : Err f ≡ Ok r = rw (e, meaning.and_then) at h in absurd cc)
-
-  pub both_read : meaning.and_then reads next words ≡ Ok r → (a : A) × (rest : List (List ℕ)) × (reads words ≡ Ok (a, rest)) × (next a rest ≡ Ok r)
-  both_read h = by_first (reads words) refl h
+-- The words behind a name are those of the command's numbers.
+abbrev IsWritten : Command → List ℕ → List (List ℕ) → Type 0
+IsWritten c name words = (name_of c ≡ name) × WriteEach words (numbers_of c)
 
 -- The command that was read with no word left.
-module _ (words : List (List ℕ)) (c d : Command) (rest : List (List ℕ)) (h : ◌≡◌ {A = Result (Command × List (List ℕ)) Unreadable} (Ok (d, rest)) (Ok (c, []))) where
-  same_pair : ◌≡◌ {A = Command × List (List ℕ)} (d, rest) (c, [])
-  same_pair = cc
+module _ (c : Command) (words : List (List ℕ)) where
+  last_read : (d : Command) (name : List ℕ) (rest : List (List ℕ)) → ◌≡◌ {A = Result (Command × List (List ℕ)) Unreadable} (Ok (d, rest)) (Ok (c, [])) → name_of d ≡ name → (WriteEach rest [] → WriteEach words (numbers_of d)) → IsWritten c name words
+  last_read d name rest h named written =
+      let same : ◌≡◌ {A = Command × List (List ℕ)} (d, rest) (c, []) = cc in
+      let none : rest ≡ [] = ap (λ (p : Command × List (List ℕ)). p.1) same in
+      subst (λ (x : Command). IsWritten x name words) (ap (λ (p : Command × List (List ℕ)). p.0) same) (named, written (rw none tt))
 
-  none_left : rest ≡ []
-  none_left = ap (λ (p : Command × List (List ℕ)). p.1) same_pair
+  abbrev Reads_as : List ℕ → Type 0
+  Reads_as name = meaning.named name words ≡ Ok (c, []) → IsWritten c name words
 
-  is_spelled : SpelledBy d words → SpelledBy c words
-  is_spelled s = subst (λ (x : Command). SpelledBy x words) (ap (λ (p : Command × List (List ℕ)). p.0) same_pair) s
-
--- A command that was read from a name and the words behind it.
-module _ (name : List ℕ) (words : List (List ℕ)) (c : Command) where
-  read_outb : name ≡ codes "outb" → meaning.named (codes "outb") words ≡ Ok (c, []) → SpelledBy c (name ∷ words)
+  read_outb : Reads_as (codes "outb")
   unfolding meaning.named
-  read_outb e h =
-      let (p, rest1, p_read, then1) = both_read _ _ words _ h in
-      let (word1, words1, p_writes, p_fits) = number_writes (2 ^ 16) words p rest1 p_read in
-      let (b, rest2, b_read, then2) = both_read _ _ rest1 _ then1 in
-      let (word2, words2, b_writes, b_fits) = number_writes (2 ^ 8) rest1 b rest2 b_read in
-      let last : rest2 ≡ [] = none_left (name ∷ words) c (Outb p b) rest2 then2 in
-      let arguments : words ≡ word1 ∷ word2 ∷ [] = words1 ∙ ap (λ ws. word1 ∷ ws) words2 ∙ ap (λ ws. word1 ∷ word2 ∷ ws) last in
-      is_spelled (name ∷ words) c (Outb p b) rest2 then2 (word1 ∷ word2 ∷ [], ap₂ (λ (n : List ℕ) (ws : List (List ℕ)). n ∷ ws) e arguments, (p_writes, p_fits, (b_writes, b_fits, tt)))
+  read_outb h =
+      let (p, more, second, port) = taken 16 _ words _ h in
+      let (b, rest, last, byte) = taken 8 _ more _ second in
+      last_read (Outb p b) _ rest last refl (λ w. port _ (byte _ w))
 
-  read_inb : name ≡ codes "inb" → meaning.named (codes "inb") words ≡ Ok (c, []) → SpelledBy c (name ∷ words)
+  read_inb : Reads_as (codes "inb")
   unfolding meaning.named
-  read_inb e h =
-      let (p, rest1, p_read, then1) = both_read _ _ words _ h in
-      let (word1, words1, p_writes, p_fits) = number_writes (2 ^ 16) words p rest1 p_read in
-      let last : rest1 ≡ [] = none_left (name ∷ words) c (Inb p) rest1 then1 in
-      let arguments : words ≡ word1 ∷ [] = words1 ∙ ap (λ ws. word1 ∷ ws) last in
-      is_spelled (name ∷ words) c (Inb p) rest1 then1 (word1 ∷ [], ap₂ (λ (n : List ℕ) (ws : List (List ℕ)). n ∷ ws) e arguments, (p_writes, p_fits, tt))
+  read_inb h = (let (p, rest, last, port) = taken 16 _ words _ h in last_read (Inb p) _ rest last refl (λ w. port _ w))
 
-  read_clock_step : name ≡ codes "clock_step" → meaning.named (codes "clock_step") words ≡ Ok (c, []) → SpelledBy c (name ∷ words)
+  read_clock_step : Reads_as (codes "clock_step")
   unfolding meaning.named
-  read_clock_step e h =
-      let (n, rest1, n_read, then1) = both_read _ _ words _ h in
-      let (word1, words1, n_writes, n_fits) = number_writes (2 ^ 64) words n rest1 n_read in
-      let last : rest1 ≡ [] = none_left (name ∷ words) c (ClockStep n) rest1 then1 in
-      let arguments : words ≡ word1 ∷ [] = words1 ∙ ap (λ ws. word1 ∷ ws) last in
-      is_spelled (name ∷ words) c (ClockStep n) rest1 then1 (word1 ∷ [], ap₂ (λ (n : List ℕ) (ws : List (List ℕ)). n ∷ ws) e arguments, (n_writes, n_fits, tt))
+  read_clock_step h = (let (n, rest, last, ticks) = taken 64 _ words _ h in last_read (ClockStep n) _ rest last refl (λ w. ticks _ w))
 
-  read_iack : name ≡ codes "iack" → meaning.named (codes "iack") words ≡ Ok (c, []) → SpelledBy c (name ∷ words)
+  read_iack : Reads_as (codes "iack")
   unfolding meaning.named
-  read_iack e h = is_spelled (name ∷ words) c Iack words h ([], ap₂ (λ (n : List ℕ) (ws : List (List ℕ)). n ∷ ws) e (none_left (name ∷ words) c Iack words h), tt)
+  read_iack h = last_read Iack _ words h refl (λ w. w)
 
-  read_queue : name ≡ codes "queue" → meaning.named (codes "queue") words ≡ Ok (c, []) → SpelledBy c (name ∷ words)
+  read_queue : Reads_as (codes "queue")
   unfolding meaning.named
-  read_queue e h =
-      let (t, rest1, t_read, then1) = both_read _ _ words _ h in
-      let (word1, words1, t_writes, t_fits) = number_writes (2 ^ 64) words t rest1 t_read in
-      let (p, rest2, p_read, then2) = both_read _ _ rest1 _ then1 in
-      let (word2, words2, p_writes, p_fits) = number_writes (2 ^ 16) rest1 p rest2 p_read in
-      let (b, rest3, b_read, then3) = both_read _ _ rest2 _ then2 in
-      let (word3, words3, b_writes, b_fits) = number_writes (2 ^ 8) rest2 b rest3 b_read in
-      let last : rest3 ≡ [] = none_left (name ∷ words) c (Queue (record { tick = t; port = p; byte = b })) rest3 then3 in
-      let arguments : words ≡ word1 ∷ word2 ∷ word3 ∷ [] = words1 ∙ ap (λ ws. word1 ∷ ws) words2 ∙ ap (λ ws. word1 ∷ word2 ∷ ws) words3 ∙ ap (λ ws. word1 ∷ word2 ∷ word3 ∷ ws) last in
-      is_spelled (name ∷ words) c (Queue (record { tick = t; port = p; byte = b })) rest3 then3 (word1 ∷ word2 ∷ word3 ∷ [], ap₂ (λ (n : List ℕ) (ws : List (List ℕ)). n ∷ ws) e arguments, (t_writes, t_fits, (p_writes, p_fits, (b_writes, b_fits, tt))))
+  read_queue h =
+      let (t, more, second, tick) = taken 64 _ words _ h in
+      let (p, most, third, port) = taken 16 _ more _ second in
+      let (b, rest, last, byte) = taken 8 _ most _ third in
+      last_read (Queue (record { tick = t; port = p; byte = b })) _ rest last refl (λ w. tick _ (port _ (byte _ w)))
 
-  read_state : name ≡ codes "state" → meaning.named (codes "state") words ≡ Ok (c, []) → SpelledBy c (name ∷ words)
+  read_state : Reads_as (codes "state")
   unfolding meaning.named
-  read_state e h = is_spelled (name ∷ words) c State words h ([], ap₂ (λ (n : List ℕ) (ws : List (List ℕ)). n ∷ ws) e (none_left (name ∷ words) c State words h), tt)
+  read_state h = last_read State _ words h refl (λ w. w)
 
-  read_help : name ≡ codes "help" → meaning.named (codes "help") words ≡ Ok (c, []) → SpelledBy c (name ∷ words)
+  read_help : Reads_as (codes "help")
   unfolding meaning.named
-  read_help e h = is_spelled (name ∷ words) c Help words h ([], ap₂ (λ (n : List ℕ) (ws : List (List ℕ)). n ∷ ws) e (none_left (name ∷ words) c Help words h), tt)
+  read_help h = last_read Help _ words h refl (λ w. w)
 
-  read_quit : name ≡ codes "quit" → meaning.named (codes "quit") words ≡ Ok (c, []) → SpelledBy c (name ∷ words)
+  read_quit : Reads_as (codes "quit")
   unfolding meaning.named
-  read_quit e h = is_spelled (name ∷ words) c Quit words h ([], ap₂ (λ (n : List ℕ) (ws : List (List ℕ)). n ∷ ws) e (none_left (name ∷ words) c Quit words h), tt)
+  read_quit h = last_read Quit _ words h refl (λ w. w)
 
   -- Either the name is this text, or it is another.
-  pub named_or : (text : List ℕ) → (name ≡ text) ⊎ (name ≡ text → ⊥)
-  named_or text =
-      elim (cases_Bool (bytes_eq name text)) [
-        | inl t ↦ inl ((bytes_eq-Decides name text).0 t)
-        | inr f ↦ inr (λ e. absurd (true≢false (sym ((bytes_eq-Decides name text).1 e) ∙ f)))
-      ]
+  module _ (name : List ℕ) (h : meaning.named name words ≡ Ok (c, [])) where
+    by_name : (text : List ℕ) → Reads_as text → ((name ≡ text → ⊥) → IsWritten c name words) → IsWritten c name words
+    by_name text reads other =
+        elim (cases_Bool (bytes_eq name text)) [
+          | inl t ↦ (let same = (bytes_eq-Decides name text).0 t in rw same (reads (rw same at h)))
+          | inr f ↦ other (λ e. absurd (true≢false (sym ((bytes_eq-Decides name text).1 e) ∙ f)))
+        ]
 
-  at_name : (text : List ℕ) → meaning.named name words ≡ Ok (c, []) → name ≡ text → meaning.named text words ≡ Ok (c, [])
-  at_name text h e = rw e at h
+    read_named : IsWritten c name words
+    read_named =
+        by_name _ read_outb (λ a. by_name _ read_inb (λ b. by_name _ read_clock_step (λ d. by_name _ read_iack (λ e.
+        by_name _ read_queue (λ f. by_name _ read_state (λ g. by_name _ read_help (λ i. by_name _ read_quit (λ j.
+        let k = sym (unknown name words (a, b, d, e, f, g, i, j)) ∙ h in absurd cc))))))))
 
-  read_named : meaning.named name words ≡ Ok (c, []) → SpelledBy c (name ∷ words)
-  read_named h =
-      elim (named_or (codes "outb")) [
-        | inl e ↦ read_outb e (at_name (codes "outb") h e)
-        | inr n0 ↦
-            elim (named_or (codes "inb")) [
-              | inl e ↦ read_inb e (at_name (codes "inb") h e)
-              | inr n1 ↦
-                  elim (named_or (codes "clock_step")) [
-                    | inl e ↦ read_clock_step e (at_name (codes "clock_step") h e)
-                    | inr n2 ↦
-                        elim (named_or (codes "iack")) [
-                          | inl e ↦ read_iack e (at_name (codes "iack") h e)
-                          | inr n3 ↦
-                              elim (named_or (codes "queue")) [
-                                | inl e ↦ read_queue e (at_name (codes "queue") h e)
-                                | inr n4 ↦
-                                    elim (named_or (codes "state")) [
-                                      | inl e ↦ read_state e (at_name (codes "state") h e)
-                                      | inr n5 ↦
-                                          elim (named_or (codes "help")) [
-                                            | inl e ↦ read_help e (at_name (codes "help") h e)
-                                            | inr n6 ↦
-                                                elim (named_or (codes "quit")) [
-                                                  | inl e ↦ read_quit e (at_name (codes "quit") h e)
-                                                  | inr n7 ↦
-                                                      (let k = sym (unknown name words (n0, n1, n2, n3, n4, n5, n6, n7)) ∙ h in absurd cc)
-                                                ]
-                                          ]
-                                    ]
-                              ]
-                        ]
-                  ]
-            ]
-      ]
-
-pub reads_spelled : (c : Command) (words : List (List ℕ)) → meaning.command words ≡ Ok (c, []) → SpelledBy c words
+-- The words of a command: its name, and words that write its numbers.
+pub reads_spelled : (c : Command) (words : List (List ℕ)) → meaning.command words ≡ Ok (c, []) → (arguments : List (List ℕ)) × (words ≡ name_of c ∷ arguments) × WriteEach arguments (numbers_of c)
 unfolding meaning.command
 reads_spelled c [] h = absurd cc
-reads_spelled c (name ∷ words) h = read_named name words c h
+reads_spelled c (name ∷ words) h = (let (named, each) = read_named c words name h in (words, ap (λ n. n ∷ words) (sym named), each))

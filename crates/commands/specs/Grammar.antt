@@ -41,17 +41,17 @@ numbers_of Help = []
 numbers_of Quit = []
 
 -- One word for each number, in their order.
-abbrev pub Write : List (List ℕ) → List Number → Type 0
-Write [] [] = ⊤
-Write [] (n ∷ ns) = ⊥
-Write (word ∷ words) [] = ⊥
-Write (word ∷ words) (n ∷ ns) = Writes word n.value × (n.value < n.limit) × Write words ns
+abbrev pub WriteEach : List (List ℕ) → List Number → Type 0
+WriteEach [] [] = ⊤
+WriteEach [] (n ∷ ns) = ⊥
+WriteEach (word ∷ words) [] = ⊥
+WriteEach (word ∷ words) (n ∷ ns) = Writes word n.value × (n.value < n.limit) × WriteEach words ns
 
 -- A line is a spelling of a command: its words are the name and the numbers.
 pub record Spells (line : List ℕ) (c : Command) : Type 0 where
   pub arguments : List (List ℕ)
   pub words : words_of_line line ≡ name_of c ∷ arguments
-  pub numbers : Write arguments (numbers_of c)
+  pub numbers : WriteEach arguments (numbers_of c)
 
 -- ---- the canonical text
 

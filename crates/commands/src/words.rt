@@ -4,7 +4,7 @@ ghost use Rattle.std.specs.List.{position, position_or_len};
 ghost use Rattle.commands.specs.Words.{is_blank, words};
 
 use crate::command::Unreadable;
-use crate::number::number;
+use crate::numbers::number;
 
 fn is_blank(byte: u8) -> bool
     ensures { result ≡ is_blank byte }

@@ -38,7 +38,8 @@ impl Line {
     }
 
     pub fn as_bytes(&self) -> &[u8]
-        ensures { result.now ≡ bytes_of self.now }
+        ensures bytes { result.now ≡ bytes_of self.now }
+        ensures fits { length result.now ≤ LONGEST_LINE }
     {
         self.bytes.as_slice()
     }
@@ -49,7 +50,7 @@ impl Line {
         ensures bytes { bytes_of self.new ≡ bytes_of self.old ++ text.now }
         ensures len { length (bytes_of self.new) ≡ length (bytes_of self.old) + length text.now }
     {
-        let _ = self.bytes.try_extend_from_slice(text);
+        self.bytes.try_extend_from_slice(text).unwrap();
     }
 
     fn number(&mut self, n: u64)

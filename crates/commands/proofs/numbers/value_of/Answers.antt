@@ -4,7 +4,7 @@ use Rattle.std.specs.Str.Parse.{digits_value, AllDigits}
 use Rattle.std.proofs.lemmas.List.{take_all}
 use Rattle.std.proofs.lemmas.Int.Digits.{digits_value_more, digits_more}
 use Rattle.commands.proofs.Digits.{digit_below, step_fits}
-use Rattle.commands.proofs.number.value_of.Goals as goal
+use Rattle.commands.proofs.numbers.value_of.Goals as goal
 
 pub returns-in_err-digit : goal.returns-in_err-digit
 returns-in_err-digit c =

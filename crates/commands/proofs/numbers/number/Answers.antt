@@ -1,6 +1,6 @@
 use Rattle.std.proofs.Common.{◌∙◌, ◌^◌, sym}
 use Rattle.commands.proofs.Digits.{number_read, number_unread}
-use Rattle.commands.proofs.number.number.Goals as goal
+use Rattle.commands.proofs.numbers.number.Goals as goal
 
 pub returns-then-is_numeral : goal.returns-then-is_numeral
 returns-then-is_numeral c =

@@ -38,7 +38,7 @@ fn value_of(digits: &[u8], base: u32) -> Option<u64>
     Some(value)
 }
 
-// Too large a number is told from what is no number.
+// A word as a number, in decimal digits or behind `0x` in hexadecimal ones. A number above 64 bits is told from what is no number.
 pub fn number(word: &[u8]) -> Result<u64, Unreadable>
     ensures { result ≡ number_below (2 ^ 64) word.now }
 {
