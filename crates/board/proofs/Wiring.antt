@@ -1,7 +1,8 @@
 -- What the iterators over the slots find is what the rules say of the four levels.
-use Rattle.std.proofs.Common.{◌≡◌, ℕ, ◌+◌, ◌<◌, Bool, true, false, cond, not, ◌&&◌, List, [], ◌∷◌, length, fold, refl, arith}
+use Rattle.std.proofs.Common.{◌≡◌, ℕ, zero, suc, ◌+◌, ◌<◌, ◌≤◌, Bool, true, false, cond, not, ◌&&◌, List, [], ◌∷◌, length, take, get_or, fold, refl, arith}
 use Rattle.std.specs.Bool.{beq}
-use Rattle.std.specs.List.{zip, filter}
+use Rattle.std.specs.List.{zip}
+use mir.Val.{bool_byte}
 use Rattle.std.proofs.lemmas.Bool.{and_parts, agree_below, agree_below_at}
 use Rattle.rules.specs.I8259.{bit}
 use Rattle.rules.specs.Board.{lines, on_line, edges_between}
@@ -48,18 +49,34 @@ four P each (a ∷ b ∷ c ∷ d ∷ e ∷ levels) h = absurd (omega arith)
 pub word_wired : (levels : List Bool) → length levels ≡ 4 → (l : ℕ) → l < 16 → bit (word levels) l ≡ on_line lines levels l
 word_wired = four (λ levels. (l : ℕ) → l < 16 → bit (word levels) l ≡ on_line lines levels l) wired_right
 
--- whether a level has changed
-abbrev pub changed : Bool × Bool → Bool
-changed p = not (beq p.0 p.1)
+-- One level more, on its line.
+pub word_next : (levels : List Bool) → length levels ≡ 4 → (i : ℕ) → i < 4 → with_line (word (take i levels)) (get_or lines i 0) (get_or levels i false) ≡ word (take (i + 1) levels)
+word_next = four (λ levels. (i : ℕ) → i < 4 → with_line (word (take i levels)) (get_or lines i 0) (get_or levels i false) ≡ word (take (i + 1) levels)) go
+  where
+    go : (a b c d : Bool) (i : ℕ) → i < 4 → with_line (word (take i (a ∷ b ∷ c ∷ d ∷ []))) (get_or lines i 0) (get_or (a ∷ b ∷ c ∷ d ∷ []) i false) ≡ word (take (i + 1) (a ∷ b ∷ c ∷ d ∷ []))
+    go a b c d zero few = refl
+    go a b c d (suc zero) few = refl
+    go a b c d (suc (suc zero)) few = refl
+    go a b c d (suc (suc (suc zero))) few = refl
+    go a b c d (suc (suc (suc (suc i)))) few = absurd (omega arith)
 
-pub edges-changed : (handed levels : List Bool) → length (filter changed (zip handed levels)) ≡ edges_between handed levels
+-- One level more, and one edge if it has changed.
+pub edges_next : (i : ℕ) (vs ws : List Bool) → i < length vs → i < length ws
+    → edges_between (take i vs) (take i ws) + bool_byte (not (beq (get_or vs i false) (get_or ws i false))) ≡ edges_between (take (suc i) vs) (take (suc i) ws)
 unfolding edges_between
-edges-changed [] levels = refl
-edges-changed (v ∷ vs) [] = refl
-edges-changed (v ∷ vs) (w ∷ ws) =
-    let rest : length (filter changed (zip vs ws)) ≡ edges_between vs ws = edges-changed vs ws in
-    elim (beq v w) as
-    (λ t. length (cond (not t) ((v, w) ∷ filter changed (zip vs ws)) (filter changed (zip vs ws))) ≡ cond t (edges_between vs ws) (1 + edges_between vs ws)) [
-      | true ↦ rest
-      | false ↦ omega arith
-    ]
+edges_next i [] ws some more = absurd (omega arith)
+edges_next i (v ∷ vs) [] some more = absurd (omega arith)
+edges_next zero (v ∷ vs) (w ∷ ws) some more = first (beq v w)
+  where
+    first : (same : Bool) → 0 + bool_byte (not same) ≡ cond same 0 (1 + 0)
+    first true = refl
+    first false = refl
+edges_next (suc i) (v ∷ vs) (w ∷ ws) some more = rest _ _ _ (beq v w) (edges_next i vs ws (omega arith) (omega arith))
+  where
+    rest : (seen one all : ℕ) (same : Bool) → seen + one ≡ all → cond same seen (1 + seen) + one ≡ cond same all (1 + all)
+    rest seen one all true is = is
+    rest seen one all false is = omega arith
+
+pub one_at_most : (b : Bool) → bool_byte b ≤ 1
+one_at_most true = omega arith
+one_at_most false = omega arith

@@ -6,7 +6,6 @@ use Rattle.rules.specs.Ascending.{insert}
 use Rattle.rules.specs.Board.{Fitting}
 use Rattle.slots.specs.Slots.{States, slot_number, Still}
 use Rattle.slots.specs.declared.fitted.Slot.{Slot}
-use Rattle.slots.specs.declared.fitted.Slot.TheVariants.{Zero, One, Two, Three}
 use Rattle.board.specs.declared.board.deadlines.Deadline.{Deadline}
 
 -- By tick, then by slot.

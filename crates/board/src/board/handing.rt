@@ -21,26 +21,20 @@ fn with_line(lines: u16, line: u8, level: bool) -> u16
     if level { lines | (1 << line) } else { lines }
 }
 
-// The lines' levels as one number, bit l for line l.
-fn lines_at(levels: &[bool; 4]) -> u16
-    ensures { (l : ℕ) → l < 16 → bit result l ≡ on_line wiring levels.now l }
+// Goes over the levels and their lines: what the lines are at, as one number with bit l for line l, and how many of the levels
+// differ from those last handed over.
+fn gather(handed: &[bool; 4], levels: &[bool; 4]) -> (u16, u64)
+    ensures lines { (l : ℕ) → l < 16 → bit result.0 l ≡ on_line wiring levels.now l }
+    ensures edges { result.1 ≡ edges_between handed.now levels.now }
+    ensures few { result.1 ≤ 4 }
 {
-    LINES
-        .iter()
-        .zip(levels)
-        .fold(0, |lines, (&line, &level)| with_line(lines, line, level))
-}
-
-// How many slots' levels differ from those last handed over.
-fn count_edges(handed: &[bool; 4], levels: &[bool; 4]) -> u64
-    ensures edges { result ≡ edges_between handed.now levels.now }
-    ensures few { result ≤ 4 }
-{
-    handed
-        .iter()
-        .zip(levels)
-        .filter(|(old, new)| old != new)
-        .count() as u64
+    let mut lines = 0;
+    let mut edges = 0;
+    for slot in 0..LINES.len() {
+        lines = with_line(lines, LINES[slot], levels[slot]);
+        edges += u64::from(handed[slot] != levels[slot]);
+    }
+    (lines, edges)
 }
 
 // What the ports reach: the slots and the interrupt controllers, and the level of each slot that the controllers were last given.
@@ -60,10 +54,11 @@ impl<F: Slots> Ports<F> {
         ensures driven { drive_lines (on_line wiring result.handed) result.pair ≡ result.pair }
     {
         let handed = slots.levels();
+        let (lines, _) = gather(&handed, &handed);
         Ports {
             slots,
             handed,
-            pair: Pair::with_inputs(lines_at(&handed)),
+            pair: Pair::with_inputs(lines),
         }
     }
 
@@ -97,8 +92,8 @@ impl<F: Slots> Ports<F> {
         ensures driven { drive_lines (on_line wiring self.new.handed) self.new.pair ≡ self.new.pair }
     {
         let levels = self.slots.levels();
-        let edges = count_edges(&self.handed, &levels);
-        self.pair.drive(lines_at(&levels));
+        let (lines, edges) = gather(&self.handed, &levels);
+        self.pair.drive(lines);
         self.handed = levels;
         edges
     }

@@ -8,12 +8,12 @@ pub returns-clause-pair : goal.returns-clause-pair
 returns-clause-pair g c =
     let pair = c.args.self.now.pair in
     c.drive.ensures
-    ∙ drive_lines_same (bit c.lines_at.result) (on_line lines c.levels-levels.result) pair c.lines_at.ensures
+    ∙ drive_lines_same (bit c.gather-lines.result.0) (on_line lines c.levels-levels.result) pair c.gather-lines.ensures.lines
     ∙ ap (λ levels. drive_lines (on_line lines levels) pair) c.levels-levels.ensures
 
 pub returns-clause-driven : goal.returns-clause-driven
 returns-clause-driven g c =
     let pair = c.args.self.now.pair in
     let line = on_line lines c.levels-levels.result in
-    let driven : c.drive.new.self ≡ drive_lines line pair = c.drive.ensures ∙ drive_lines_same (bit c.lines_at.result) line pair c.lines_at.ensures in
+    let driven : c.drive.new.self ≡ drive_lines line pair = c.drive.ensures ∙ drive_lines_same (bit c.gather-lines.result.0) line pair c.gather-lines.ensures.lines in
     subst (λ p. drive_lines line p ≡ p) (sym driven) (drive_lines_again line pair)
