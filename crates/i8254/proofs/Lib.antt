@@ -1,2 +1,2 @@
-pub mod Channels
+pub mod Lag
 pub mod Standing

@@ -1,8 +1,10 @@
 -- What the code's counters, channels and timers are in the rules.
-use Rattle.std.specs.Prelude.{ℕ, Some, None, Option, List, map, slice_index_or}
+use Rattle.std.specs.Prelude.{ℕ, Some, None, Option}
+use Rattle.rules.specs.Device.{ticks}
 use Rattle.rules.specs.I8254 as rules
-use Rattle.rules.specs.I8254.{mode_0, count_meant, power_on_channel}
+use Rattle.rules.specs.I8254.{mode_0, count_meant}
 use Rattle.i8254_laws.specs.Counters.{mode_0_counter, unloaded, mode_2_counter, mode_3_counter}
+use Rattle.i8254_laws.specs.Machines.{channel}
 use Rattle.i8254.specs.Control.{view_access, untriggered_mode, periodic_mode}
 use Rattle.i8254.specs.declared.control.Untriggered.{Untriggered}
 use Rattle.i8254.specs.declared.control.Periodic.{Periodic}
@@ -46,10 +48,11 @@ abbrev pub view_channel : Channel → rules.Channel
 view_channel ch =
     record { access = view_access ch.access; low_byte = ch.low_byte; high_next = ch.high_next; latch = ch.latch; counter = view_counter ch.counter }
 
-abbrev pub view_channels : List Channel → rules.Timer
-view_channels channels =
-    let channel = λ (n : ℕ). slice_index_or (map view_channel channels) n power_on_channel in
-    record { channel_0 = channel 0; channel_1 = channel 1; channel_2 = channel 2 }
-
+-- Channels 1 and 2 still lack the ticks that they lag behind.
 abbrev pub view : Timer → rules.Timer
-view t = view_channels t.channels
+view t =
+    record { channel_0 = view_channel t.channel_0; channel_1 = ticks channel t.lag (view_channel t.channel_1); channel_2 = ticks channel t.lag (view_channel t.channel_2) }
+
+-- n ticks of channels 1 and 2 alone.
+abbrev pub others_after : ℕ → rules.Timer → rules.Timer
+others_after n t = record { channel_0 = t.channel_0; channel_1 = ticks channel n t.channel_1; channel_2 = ticks channel n t.channel_2 }

@@ -1,8 +1,12 @@
-use Rattle.std.proofs.Common.{rules, ◌/◌, ◌∙◌, arith}
-use Rattle.rules.specs.I8254.{control}
-use Rattle.i8254.proofs.Channels.{changed}
+use Rattle.std.proofs.Common.{◌∙◌, ap}
+use Rattle.rules.specs.I8254.{at_channel, control}
+use Rattle.i8254.proofs.Lag.{changed_1, changed_2}
 use Rattle.i8254.proofs.timer.Timer.control.Goals as goal
 
-pub returns-in-0-to-2 : goal.returns-in-0-to-2
-returns-in-0-to-2 c =
-    changed c.args.self.now.channels c.from.result (c.args.word / 64) (control c.args.word) _ _ (search rules) c.from.ensures (omega arith) (c.control.ensures ∙ c.from-in-0-to-2.ensures _)
+pub returns-in-1 : goal.returns-in-1
+returns-in-1 c =
+    rw c.in-1.is (changed_1 c.catch_up.new.self c.catch_up.ensures.lag (control c.args.word) c.control-in-1.new.self (c.control-in-1.ensures ∙ c.from-command.ensures _) ∙ ap (at_channel 1 (control c.args.word)) c.catch_up.ensures.meaning)
+
+pub returns-in-2 : goal.returns-in-2
+returns-in-2 c =
+    rw c.in-2.is (changed_2 c.catch_up-in-2.new.self c.catch_up-in-2.ensures.lag (control c.args.word) c.control-in-2.new.self (c.control-in-2.ensures ∙ c.from-command.ensures _) ∙ ap (at_channel 2 (control c.args.word)) c.catch_up-in-2.ensures.meaning)

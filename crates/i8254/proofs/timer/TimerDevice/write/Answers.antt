@@ -1,10 +1,12 @@
-use Rattle.std.proofs.Common.{rules, arith}
-use Rattle.std.proofs.lemmas.Bool.{ne_eqb}
-use Rattle.rules.specs.I8254.{write_count}
-use Rattle.i8254.proofs.Channels.{changed}
+use Rattle.std.proofs.Common.{◌∙◌, ap}
+use Rattle.rules.specs.I8254.{at_channel, write_count}
+use Rattle.i8254.proofs.Lag.{changed_1, changed_2}
 use Rattle.i8254.proofs.timer.TimerDevice.write.Goals as goal
 
-pub returns-in-0-to-2 : goal.returns-in-0-to-2
-returns-in-0-to-2 c =
-    rw (ne_eqb c.args.offset 3 (λ e. omega arith))
-    (changed c.args.self.now.channels c.from.result c.args.offset (write_count c.args.byte) _ _ (search rules) c.from.ensures (omega arith) c.write_count.ensures)
+pub returns-in-1 : goal.returns-in-1
+returns-in-1 c =
+    rw c.in-1.is (changed_1 c.catch_up.new.self c.catch_up.ensures.lag (write_count c.args.byte) c.write_count-in-1.new.self c.write_count-in-1.ensures ∙ ap (at_channel 1 (write_count c.args.byte)) c.catch_up.ensures.meaning)
+
+pub returns-in-2 : goal.returns-in-2
+returns-in-2 c =
+    rw c.in-2.is (changed_2 c.catch_up-in-2.new.self c.catch_up-in-2.ensures.lag (write_count c.args.byte) c.write_count-in-2.new.self c.write_count-in-2.ensures ∙ ap (at_channel 2 (write_count c.args.byte)) c.catch_up-in-2.ensures.meaning)
