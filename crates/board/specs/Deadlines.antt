@@ -1,5 +1,5 @@
 -- The deadlines of the slots: in which order they come, and what they tell of the ticks ahead.
-use Rattle.std.specs.Prelude.{◌≡◌, ℕ, ◌+◌, ◌≤◌, min, Bool, true, false, ◌&&◌, ◌||◌, List, [], ◌∷◌, Some, None, Option, ◌==◌, nat_lt}
+use Rattle.std.specs.Prelude.{◌≡◌, ℕ, ◌+◌, ◌-◌, ◌≤◌, min, Bool, true, false, ◌&&◌, ◌||◌, List, [], ◌∷◌, Some, None, Option, ◌==◌, nat_lt}
 use Rattle.std.proofs.Common.{rules}
 use Rattle.agenda.specs.Order.{IsStrictTotalOrder}
 use Rattle.rules.specs.Ascending.{insert}
@@ -40,10 +40,10 @@ abbrev pub TakesDue : ℕ → Option Deadline → List Deadline → List Deadlin
 TakesDue now None old new = (new ≡ old) × ((n : ℕ) → NoneBefore n (now + 1) new)
 TakesDue now (Some d) old new = (d.tick ≤ now) × (old ≡ d ∷ new)
 
--- The tick of the first deadline, or `end` where none lies before it.
-abbrev pub first_before : ℕ → List Deadline → ℕ
-first_before end [] = end
-first_before end (d ∷ ds) = min end d.tick
+-- How far it is to the first deadline, at most `ahead` ticks.
+abbrev pub to_first : ℕ → ℕ → List Deadline → ℕ
+to_first now ahead [] = ahead
+to_first now ahead (d ∷ ds) = min ahead (d.tick - now)
 
 abbrev pub at_tick : ℕ → Slot → Deadline
 at_tick tick slot = record { tick = tick; slot = slot }

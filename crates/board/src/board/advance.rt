@@ -106,8 +106,9 @@ impl<'a, F: Slots> Board<'a, F> {
         let mut edges = 0;
         while left > 0 {
             deadlines.renew(&self.ports.slots, self.time);
-            self.quiet_until = deadlines.first_tick(end, self.time);
-            let stride = left.min(self.quiet_until - self.time);
+            let quiet = deadlines.until_first(self.time, end - self.time);
+            self.quiet_until = self.time + quiet;
+            let stride = left.min(quiet);
             edges += self.arrive(stride);
             left -= stride;
         }

@@ -4,7 +4,7 @@ ghost use Rattle.agenda.specs.Nodes.{usable};
 ghost use Rattle.agenda.specs.Waiting.{waiting};
 ghost use Rattle.rules.specs.Device.{horizon};
 ghost use Rattle.slots.specs.Slots.{slot_number, Foretold};
-ghost use Rattle.board.specs.Deadlines.{comes_before, in_order, NoneBefore, first_before, with_announced, TakesDue, Watched};
+ghost use Rattle.board.specs.Deadlines.{comes_before, in_order, NoneBefore, to_first, with_announced, TakesDue, Watched};
 
 use agenda::{Agenda, Entry};
 use slots::{Slot, Slots};
@@ -91,18 +91,18 @@ impl<'n> Deadlines<'n> {
         }
     }
 
-    // The tick of the first deadline, or `end` where none lies before it.
-    pub(super) fn first_tick(&self, end: u64, now: u64) -> u64
-        requires some { now < end }
+    // How far it is to the first deadline: at most `ahead` ticks.
+    pub(super) fn until_first(&self, now: u64, ahead: u64) -> u64
+        requires some { 1 ≤ ahead }
         requires ahead { (n : ℕ) → NoneBefore n (now + 1) (waiting comes_before self.now.agenda) }
-        ensures some { now < result }
-        ensures most { result ≤ end }
-        ensures none { (n : ℕ) → NoneBefore n result (waiting comes_before self.now.agenda) }
-        ensures nearest { result ≡ first_before end (waiting comes_before self.now.agenda) }
+        ensures some { 1 ≤ result }
+        ensures most { result ≤ ahead }
+        ensures none { (n : ℕ) → NoneBefore n (now + result) (waiting comes_before self.now.agenda) }
+        ensures nearest { result ≡ to_first now ahead (waiting comes_before self.now.agenda) }
     {
         match self.agenda.first() {
-            Some(deadline) => end.min(deadline.tick),
-            None => end,
+            Some(deadline) => ahead.min(deadline.tick - now),
+            None => ahead,
         }
     }
 }

@@ -34,8 +34,13 @@ renew-requires g c =
     let ends = same_end g.F.Slots.states g.F.Slots.fitting c.args.ticks c.loop-left.left c.args.self.now c.loop-left.self _ _ c.loop-left.invariant.passed in
     record { time = omega arith }
 
-pub first_tick-self-requires-clause-some : goal.first_tick-self-requires-clause-some
-first_tick-self-requires-clause-some g c =
+pub overflow_sub-end : goal.overflow_sub-end
+overflow_sub-end g c =
+    let ends = same_end g.F.Slots.states g.F.Slots.fitting c.args.ticks c.loop-left.left c.args.self.now c.loop-left.self _ _ c.loop-left.invariant.passed in
+    omega arith
+
+pub until_first-quiet-requires-clause-some : goal.until_first-quiet-requires-clause-some
+until_first-quiet-requires-clause-some g c =
     let ends = same_end g.F.Slots.states g.F.Slots.fitting c.args.ticks c.loop-left.left c.args.self.now c.loop-left.self _ _ c.loop-left.invariant.passed in
     omega arith
 
@@ -47,11 +52,11 @@ invariant_of-self g c =
     let known = c.loop-left.invariant in
     let ends = same_end s f c.args.ticks c.loop-left.left c.args.self.now before _ _ known.passed in
     let ahead = c.args.self.now.time + horizon - before.time in
-    let found = c.first_tick-self.ensures in
+    let found = c.until_first-quiet.ensures in
     record {
       handed_over = before.handed_over;
       driven = before.driven;
-      quiet = still_before f ahead before.time c.first_tick-self.result (waiting comes_before c.renew.new.self.agenda) (s before.ports.slots) found.some (omega (arith, found.most))
+      quiet = still_before f ahead before.time (before.time + c.until_first-quiet.result) (waiting comes_before c.renew.new.self.agenda) (s before.ports.slots) (omega (arith, found.some)) (omega (arith, found.most))
           (λ n few. c.renew.ensures.watched n ahead (omega (arith, known.fewer, c.requires.near)) (known.watched (omega arith) n few)) found.none;
     }
 
@@ -75,8 +80,8 @@ loop-left-preserved g c =
     let after = c.arrive-edges.new.self in
     let left = c.loop-left.left in
     let stride = c.min-stride.result in
-    let found = c.first_tick-self.ensures in
-    let first = c.first_tick-self.result in
+    let found = c.until_first-quiet.ensures in
+    let quiet = c.until_first-quiet.result in
     let known = c.loop-left.invariant in
     let start = c.args.self.now.time in
     let begun = same_end s f c.args.ticks left c.args.self.now before _ _ known.passed in
@@ -85,8 +90,8 @@ loop-left-preserved g c =
     let ds = waiting comes_before c.renew.new.self.agenda in
     let now = s before.ports.slots in
     let watched : (n : ℕ) → n < 4 → Watched f n ahead before.time ds now = λ n few. c.renew.ensures.watched n ahead (omega (arith, known.fewer, c.requires.near)) (known.watched (omega arith) n few) in
-    let still = still_before f ahead before.time first ds now found.some (omega (arith, found.most)) watched found.none in
-    let is : stride ≡ min left (first - before.time) = c.min-stride.ensures in
+    let still = still_before f ahead before.time (before.time + quiet) ds now (omega (arith, found.some)) (omega (arith, found.most)) watched found.none in
+    let is : stride ≡ min left quiet = c.min-stride.ensures in
     let some : 1 ≤ stride = omega (arith, found.some) in
     let most : stride ≤ left = omega arith in
     let next : Progress s f (ticking f left) (ticking f (left - stride)) 1 c.arrive-edges.result before after =
