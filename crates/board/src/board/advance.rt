@@ -99,6 +99,7 @@ impl<'a, F: Slots> Board<'a, F> {
         if self.time + ticks <= self.quiet_until {
             return self.arrive(ticks);
         }
+        // What is announced now holds so far.
         let end = self.time + HORIZON;
         let mut nodes = [Deadline::UNUSED; 4];
         let mut deadlines = self.deadlines(&mut nodes);
