@@ -13,6 +13,10 @@ use Rattle.i8254.specs.declared.timer.Timer.{Timer}
 pub caught_up : (lag : ℕ) (ch : rules.Channel) → lag ≡ 0 → ticks channel lag ch ≡ ch
 caught_up lag ch none = rw none (ticks_zero channel ch)
 
+-- Channels 1 and 2 with the ticks that they lacked.
+pub both_caught_up : (t : Timer) (new_1 new_2 : Channel) → view_channel new_1 ≡ ticks channel t.lag (view_channel t.channel_1) → view_channel new_2 ≡ ticks channel t.lag (view_channel t.channel_2) → view (record { channel_0 = t.channel_0; channel_1 = new_1; channel_2 = new_2; lag = 0 }) ≡ view t
+both_caught_up t new_1 new_2 is_1 is_2 = rw (ticks_zero channel (view_channel new_1), ticks_zero channel (view_channel new_2), is_1, is_2)
+
 -- Channel 1 or 2 changed, once it has caught up.
 module _ (t : Timer) (none : t.lag ≡ 0) (f : rules.Channel → rules.Channel) (new : Channel) where
   pub changed_1 : view_channel new ≡ f (view_channel t.channel_1) → view (record { channel_0 = t.channel_0; channel_1 = new; channel_2 = t.channel_2; lag = t.lag }) ≡ at_channel 1 f (view t)
