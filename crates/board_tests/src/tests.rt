@@ -72,7 +72,10 @@ fn no_nodes_hold_no_write(rt: HostRuntime) {
 #[test]
 fn the_longest_advance(rt: HostRuntime) {
     let mut board = bare(&mut []);
-    assert_eq!(rt; board.advance(LONGEST_ADVANCE + 1), Err(Refusal::LongAdvance));
+    assert_eq!(rt;
+        board.advance(LONGEST_ADVANCE + 1),
+        Err(Refusal::LongAdvance)
+    );
     assert_eq!(rt; board.advance(u64::MAX), Err(Refusal::LongAdvance));
     assert_eq!(rt; board.time(), 0);
     assert_eq!(rt; board.advance(LONGEST_ADVANCE), Ok(0));
@@ -149,7 +152,13 @@ fn a_dip_within_a_tick(rt: HostRuntime) {
     };
     let mut nodes = [FREE; 2];
     let mut board = Board::new(slots, &mut nodes);
-    for (port, byte) in [(0x20, 0x11), (0x21, 0x08), (0x21, 0x04), (0x21, 0x01), (0x43, 0x34)] {
+    for (port, byte) in [
+        (0x20, 0x11),
+        (0x21, 0x08),
+        (0x21, 0x04),
+        (0x21, 0x01),
+        (0x43, 0x34),
+    ] {
         board.write(port, byte);
     }
     assert_eq!(rt; board.acknowledge(), 0x08);

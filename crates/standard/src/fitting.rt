@@ -29,7 +29,9 @@ const FREE_NODE: QueuedWrite = QueuedWrite {
 };
 
 // A new board of the standard fitting.
-pub fn standard_board(nodes: &mut [QueuedWrite]) -> Board<'_, Fitted<Divider<Timer>, Empty, Empty, Empty>>
+pub fn standard_board(
+    nodes: &mut [QueuedWrite],
+) -> Board<'_, Fitted<Divider<Timer>, Empty, Empty, Empty>>
     ensures board { view states result ≡ new_board standard (length nodes.old) (divide 12 power_on_timer) tt tt tt }
     ensures nodes { result.queue.nodes ≡ nodes.entry }
 {
