@@ -1,9 +1,8 @@
 //! A board as one would write it for speed: time jumps to the next deadline or pending write, a device is brought up to date only where it
 //! is due or reached, and the controllers are driven only where something may have changed.
 
-use crate::call::{
-    self, BAD_TICK, END_OF_TIME, HORIZON, LONG_ADVANCE, MOST_NODES, PAST_END, QUEUE_FULL, QueuedWrite,
-};
+use crate::call::{self, HORIZON, MOST_NODES, QueuedWrite};
+use crate::ports::{self, Target, may_advance, may_queue};
 use std::cmp::Reverse;
 use std::collections::BinaryHeap;
 
@@ -619,16 +618,6 @@ impl<D: Device> Slot<D> {
     }
 }
 
-enum Target {
-    Master(u16),
-    Slave(u16),
-    Slot0(u16),
-    Slot1(u16),
-    Slot2(u16),
-    Slot3(u16),
-    OpenBus,
-}
-
 pub struct Board<D0, D1, D2, D3> {
     time: u64,
     /// The next tick on which a level changes or a write is carried out.
@@ -720,15 +709,7 @@ impl<D0: Device, D1: Device, D2: Device, D3: Device> Board<D0, D1, D2, D3> {
     }
 
     fn target(port: u16) -> Target {
-        match port {
-            0x20..=0x21 => Target::Master(port - 0x20),
-            0xA0..=0xA1 => Target::Slave(port - 0xA0),
-            0x40.. if port - 0x40 < D0::WIDTH => Target::Slot0(port - 0x40),
-            0x70.. if port - 0x70 < D1::WIDTH => Target::Slot1(port - 0x70),
-            0x3F8.. if port - 0x3F8 < D2::WIDTH => Target::Slot2(port - 0x3F8),
-            0x2F8.. if port - 0x2F8 < D3::WIDTH => Target::Slot3(port - 0x2F8),
-            _ => Target::OpenBus,
-        }
+        ports::target(port, [D0::WIDTH, D1::WIDTH, D2::WIDTH, D3::WIDTH])
     }
 
     fn read_port(&mut self, port: u16) -> u8 {
@@ -781,12 +762,7 @@ impl call::Fitted for FourTimers {
 
 impl<D0: Device, D1: Device, D2: Device, D3: Device> call::Board for Board<D0, D1, D2, D3> {
     fn advance(&mut self, n: u64) -> Result<u64, u8> {
-        if n > HORIZON {
-            return Err(LONG_ADVANCE);
-        }
-        if n > END_OF_TIME - self.time {
-            return Err(PAST_END);
-        }
+        may_advance(self.time, n)?;
         let end = self.time + n;
         let mut edges = 0;
         while self.next <= end {
@@ -816,12 +792,7 @@ impl<D0: Device, D1: Device, D2: Device, D3: Device> call::Board for Board<D0, D
     }
 
     fn queue(&mut self, write: QueuedWrite) -> Result<(), u8> {
-        if write.tick <= self.time || write.tick > END_OF_TIME {
-            return Err(BAD_TICK);
-        }
-        if self.queue.len() == self.nodes {
-            return Err(QUEUE_FULL);
-        }
+        may_queue(self.time, write, self.queue.len(), self.nodes)?;
         self.queue.push(Reverse(write));
         self.next = self.next.min(write.tick);
         Ok(())

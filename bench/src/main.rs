@@ -3,6 +3,7 @@
 mod call;
 mod check;
 mod events;
+mod ports;
 mod proved;
 mod random;
 mod table;

@@ -1,8 +1,7 @@
 //! The plain board: it does what docs/RULES.md says, one tick after the other.
 
-use crate::call::{
-    self, BAD_TICK, END_OF_TIME, HORIZON, LONG_ADVANCE, MOST_NODES, PAST_END, QUEUE_FULL, QueuedWrite,
-};
+use crate::call::{self, MOST_NODES, QueuedWrite};
+use crate::ports::{self, Target, may_advance, may_queue};
 
 pub trait Device {
     const WIDTH: u16;
@@ -443,16 +442,6 @@ impl Chip {
     }
 }
 
-enum Target {
-    Master(u16),
-    Slave(u16),
-    Slot0(u16),
-    Slot1(u16),
-    Slot2(u16),
-    Slot3(u16),
-    OpenBus,
-}
-
 pub struct Board<D0, D1, D2, D3> {
     time: u64,
     slot_0: D0,
@@ -529,15 +518,7 @@ impl<D0: Device, D1: Device, D2: Device, D3: Device> Board<D0, D1, D2, D3> {
     }
 
     fn target(port: u16) -> Target {
-        match port {
-            0x20..=0x21 => Target::Master(port - 0x20),
-            0xA0..=0xA1 => Target::Slave(port - 0xA0),
-            0x40.. if port - 0x40 < D0::WIDTH => Target::Slot0(port - 0x40),
-            0x70.. if port - 0x70 < D1::WIDTH => Target::Slot1(port - 0x70),
-            0x3F8.. if port - 0x3F8 < D2::WIDTH => Target::Slot2(port - 0x3F8),
-            0x2F8.. if port - 0x2F8 < D3::WIDTH => Target::Slot3(port - 0x2F8),
-            _ => Target::OpenBus,
-        }
+        ports::target(port, [D0::WIDTH, D1::WIDTH, D2::WIDTH, D3::WIDTH])
     }
 
     fn read_port(&mut self, port: u16) -> u8 {
@@ -588,12 +569,7 @@ impl call::Fitted for FourTimers {
 
 impl<D0: Device, D1: Device, D2: Device, D3: Device> call::Board for Board<D0, D1, D2, D3> {
     fn advance(&mut self, n: u64) -> Result<u64, u8> {
-        if n > HORIZON {
-            return Err(LONG_ADVANCE);
-        }
-        if n > END_OF_TIME - self.time {
-            return Err(PAST_END);
-        }
+        may_advance(self.time, n)?;
         Ok((0..n).map(|_| self.tick()).sum())
     }
 
@@ -619,12 +595,7 @@ impl<D0: Device, D1: Device, D2: Device, D3: Device> call::Board for Board<D0, D
     }
 
     fn queue(&mut self, write: QueuedWrite) -> Result<(), u8> {
-        if write.tick <= self.time || write.tick > END_OF_TIME {
-            return Err(BAD_TICK);
-        }
-        if self.pending.len() == self.nodes {
-            return Err(QUEUE_FULL);
-        }
+        may_queue(self.time, write, self.pending.len(), self.nodes)?;
         let place = self.pending.partition_point(|pending| *pending > write);
         self.pending.insert(place, write);
         Ok(())
