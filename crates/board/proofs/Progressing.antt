@@ -4,13 +4,13 @@ use Rattle.agenda.specs.Waiting.{Kept}
 use Rattle.rules.specs.I8259.{drive_lines}
 use Rattle.rules.specs.Board as rules
 use Rattle.rules.specs.Board.{Fitting, Counted, levels, hand, carry_out, tick_times, on_line, lines}
-use Rattle.board_laws.specs.Jump.{Settled, Quiet, Idle, NoneDue, later, counted, jump_first, arrival_none, tick_times_time, tick_none, handing_settled, settled_later}
+use Rattle.board_laws.specs.Jump.{Settled, Quiet, Idle, NoneDue, later, counted, jump, jump_first, arrival_none, tick_times_time, tick_none, handing_settled, settled_later}
 use Rattle.slots.specs.Slots.{States}
 use Rattle.slots.specs.declared.fitted.Slots.{Ghosts}
 use Rattle.board.specs.Steps.{Progress, Jumps, Arrives, Runs, ticking}
 use Rattle.board.specs.View.{view}
 use Rattle.board.specs.declared.board.Board.{Board}
-use Rattle.board.proofs.Called.{kept_both}
+use Rattle.board.proofs.Called.{kept_both, kept_same}
 
 module _ {F S0 S1 S2 S3 : Type 0} {slots : Ghosts F} (states : F → States S0 S1 S2 S3) (f : Fitting S0 S1 S2 S3) where
   -- Two parts are one, with the edges of both, and within as many handings as both may take.
@@ -57,6 +57,15 @@ module _ {F S0 S1 S2 S3 : Type 0} {slots : Ghosts F} (states : F → States S0 S
         ∙ ap₂ (λ x n. carry_out f x.pending (counted f x n)) (sym is) (sym (add-zero e));
     few = omega (arith, ap (λ x. length x.pending) is);
     nodes = kept;
+  }
+
+  -- Ticks on which no level changes and no write is due pass in one jump.
+  pub passed_quietly : (n : ℕ) (a b : Board F slots) → Settled f (view states a) → Quiet f n (view states a) → Idle f n (view states a)
+      → view states b ≡ later f n (view states a) → b.queue ≡ a.queue → Runs states f n 0 a b
+  passed_quietly n a b settled quiet idle is queue = record {
+    same = λ e. jump f n (view states a) e settled quiet idle ∙ ap₂ (counted f) (sym is) (sym (add-zero e));
+    few = omega (arith, ap (λ x. length x.pending) is);
+    nodes = kept_same a.queue b.queue queue;
   }
 
 -- A board with its slots in other states, at another time.

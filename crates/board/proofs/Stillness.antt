@@ -87,7 +87,7 @@ module _ {S0 S1 S2 S3 : Type 0} (f : Fitting S0 S1 S2 S3) where
   still_less n k m s fewer still = λ j early. still j (omega arith)
 
   -- The slot that has announced is watched, and the others are as before.
-  announced_watched : (now ahead : ℕ) (slot : Slot) (announced : Option ℕ) (ds : List Deadline) (s : States S0 S1 S2 S3) → ahead ≤ horizon → Foretold f (slot_number slot) announced s
+  announced_watched : (now ahead : ℕ) (slot : Slot) (announced : Option ℕ) (ds : List Deadline) (s : States S0 S1 S2 S3) → ahead ≤ horizon + 1 → Foretold f (slot_number slot) announced s
       → Watched f (slot_number slot) ahead now (with_announced now slot announced ds) s
   announced_watched now ahead slot None ds s near told = λ k within none. still_less (slot_number slot) k (horizon + 1) s (omega arith) told
   announced_watched now ahead slot (Some a) ds s near told = λ k within none.
@@ -98,7 +98,7 @@ module _ {S0 S1 S2 S3 : Type 0} (f : Fitting S0 S1 S2 S3) where
   pub other_watched : (n ahead now : ℕ) (slot : Slot) (announced : Option ℕ) (ds : List Deadline) (s : States S0 S1 S2 S3) → Watched f n ahead now ds s → Watched f n ahead now (with_announced now slot announced ds) s
   other_watched n ahead now slot announced ds s watched = λ k within none. watched k within (none_of_announced n (now + k) now slot announced ds none)
 
-  pub renewed_watched : (n ahead now : ℕ) (d : Deadline) (announced : Option ℕ) (old ds new : List Deadline) (s : States S0 S1 S2 S3) → ahead ≤ horizon → Foretold f (slot_number d.slot) announced s
+  pub renewed_watched : (n ahead now : ℕ) (d : Deadline) (announced : Option ℕ) (old ds new : List Deadline) (s : States S0 S1 S2 S3) → ahead ≤ horizon + 1 → Foretold f (slot_number d.slot) announced s
       → old ≡ d ∷ ds → new ≡ with_announced now d.slot announced ds → Watched f n ahead now old s → Watched f n ahead now new s
   renewed_watched n ahead now d announced old ds new s near told was is watched = subst (λ l. Watched f n ahead now l s) (sym is) (elim (cases_eq n (slot_number d.slot)) [
     | inl same ↦ subst (λ m. Watched f m ahead now (with_announced now d.slot announced ds) s) (sym same) (announced_watched now ahead d.slot announced ds s near told)
@@ -106,7 +106,7 @@ module _ {S0 S1 S2 S3 : Type 0} (f : Fitting S0 S1 S2 S3) where
   ])
 
   -- Of the first slots that are watched there is one more, when the next one has announced.
-  pub next_watched : (i n ahead now : ℕ) (slot : Slot) (announced : Option ℕ) (old new : List Deadline) (s : States S0 S1 S2 S3) → slot_number slot ≡ i → n < i + 1 → ahead ≤ horizon → Foretold f (slot_number slot) announced s
+  pub next_watched : (i n ahead now : ℕ) (slot : Slot) (announced : Option ℕ) (old new : List Deadline) (s : States S0 S1 S2 S3) → slot_number slot ≡ i → n < i + 1 → ahead ≤ horizon + 1 → Foretold f (slot_number slot) announced s
       → new ≡ with_announced now slot announced old → (n < i → Watched f n ahead now old s) → Watched f n ahead now new s
   next_watched i n ahead now slot announced old new s is few near told grown watched = subst (λ l. Watched f n ahead now l s) (sym grown) (elim (cases_eq n (slot_number slot)) [
     | inl same ↦ subst (λ m. Watched f m ahead now (with_announced now slot announced old) s) (sym same) (announced_watched now ahead slot announced old s near told)

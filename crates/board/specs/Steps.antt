@@ -1,5 +1,5 @@
 -- What the steps of an advance do, by the tick board.
-use Rattle.std.specs.Prelude.{◌≡◌, ℕ, ◌+◌, ◌-◌, ◌*◌, ◌<◌, ◌≤◌, min, cond, List, [], ◌∷◌, length, Some, None, Option, nat_lt}
+use Rattle.std.specs.Prelude.{◌≡◌, ℕ, ◌+◌, ◌-◌, ◌*◌, ◌<◌, ◌≤◌, min, cond, Bool, true, false, List, [], ◌∷◌, length, Some, None, Option, nat_lt}
 use Rattle.agenda.specs.Waiting.{Kept}
 use Rattle.rules.specs.Board as rules
 use Rattle.rules.specs.declared.queued.QueuedWrite.{QueuedWrite}
@@ -47,6 +47,11 @@ module _ {F S0 S1 S2 S3 : Type 0} {slots : Ghosts F} (states : F → States S0 S
 
   abbrev pub Runs : ℕ → ℕ → Board F slots → Board F slots → Type 0
   Runs n = Progress (ticking f n) (nothing f) n
+
+  -- The ticks passed with no edge; or nothing was done.
+  abbrev pub Passes : ℕ → Bool → Board F slots → Board F slots → Type 0
+  Passes n true before after = Runs n 0 before after
+  Passes n false before after = after ≡ before
 
 -- How far it is to the first pending write, at most `left` ticks. One that is not ahead does not count.
 abbrev pub to_write : ℕ → ℕ → List QueuedWrite → ℕ

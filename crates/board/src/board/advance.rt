@@ -2,8 +2,8 @@
 ghost use Rattle.std.specs.Prelude.{◌≡◌, ℕ, ◌+◌, ◌-◌, ◌^◌, ◌<◌, ◌≤◌};
 ghost use Rattle.rules.specs.Device.{horizon};
 ghost use Rattle.rules.specs.Board as rules;
-ghost use Rattle.board_laws.specs.Jump.{Idle};
-ghost use Rattle.board.specs.Steps.{CarriesNext, CarriesOut, Jumps, Arrives, Runs, to_write};
+ghost use Rattle.board_laws.specs.Jump.{Idle, later};
+ghost use Rattle.board.specs.Steps.{CarriesNext, CarriesOut, Jumps, Arrives, Runs, Passes, to_write};
 ghost use Rattle.agenda.specs.Waiting.{waiting};
 ghost use Rattle.board.specs.Deadlines.{comes_before, Watched};
 ghost use Rattle.board.specs.Answers.{of_advance};
@@ -38,18 +38,29 @@ impl<'a, F: Slots> Board<'a, F> {
         edges
     }
 
-    // Jumps k ticks on: the devices skip them, and the levels are handed over once. Where no level has changed that would do nothing,
-    // since the board is settled, and is left out. Answers the edges of the handing.
+    // Jumps k ticks on, on which no level changes. A handing would do nothing there, since the board is settled, and is left out.
+    fn jump_quietly(&mut self, k: u64)
+        requires near { k ≤ horizon }
+        requires quiet { self.old.time + k < self.old.quiet_until }
+        ensures moved { view F.states self.new ≡ later F.fitting k (view F.states self.old) }
+        ensures queue { self.new.queue ≡ self.old.queue }
+    {
+        self.ports.slots.skip(k);
+        self.time += k;
+    }
+
+    // Jumps k ticks on: the devices skip them, and the levels are handed over once. Answers the edges of the handing.
     fn jump(&mut self, k: u64) -> u64
         requires near { k ≤ horizon }
         requires time { self.old.time + k < 2 ^ 62 }
         ensures { Jumps F.states F.fitting k result self.old self.new }
     {
-        self.ports.slots.skip(k);
-        self.time += k;
-        if self.time < self.quiet_until {
+        if self.time + k < self.quiet_until {
+            self.jump_quietly(k);
             return 0;
         }
+        self.ports.slots.skip(k);
+        self.time += k;
         self.ports.hand_over()
     }
 
@@ -82,7 +93,7 @@ impl<'a, F: Slots> Board<'a, F> {
     // Has every slot announce.
     fn deadlines<'n>(&self, nodes: &'n mut [Deadline; 4]) -> Deadlines<'n>
         requires time { self.now.time < 2 ^ 62 }
-        ensures { (n ahead : ℕ) → n < 4 → ahead ≤ horizon → Watched F.fitting n ahead self.now.time (waiting comes_before result.agenda) (F.states self.now.ports.slots) }
+        ensures { (n ahead : ℕ) → n < 4 → ahead ≤ horizon + 1 → Watched F.fitting n ahead self.now.time (waiting comes_before result.agenda) (F.states self.now.ports.slots) }
     {
         Deadlines::new(nodes, &self.ports.slots, self.time)
     }
@@ -99,8 +110,8 @@ impl<'a, F: Slots> Board<'a, F> {
         if self.time + ticks <= self.quiet_until {
             return self.arrive(ticks);
         }
-        // What is announced now holds so far.
-        let end = self.time + HORIZON;
+        // What is announced now holds before this tick.
+        let end = self.time + HORIZON + 1;
         let mut nodes = [Deadline::UNUSED; 4];
         let mut deadlines = self.deadlines(&mut nodes);
         let mut left = ticks;
@@ -133,6 +144,19 @@ impl<'a, F: Slots> Board<'a, F> {
         edges
     }
 
+    // Lets n ticks pass if nothing happens on any of them, and answers whether it did so. Most short advances come to no more.
+    fn pass_quietly(&mut self, n: u64) -> bool
+        requires near { n ≤ horizon }
+        requires time { 1 ≤ n → self.old.time + n < 2 ^ 62 }
+        ensures { Passes F.states F.fitting n result self.old self.new }
+    {
+        if self.quiet_until <= self.time + n || self.until_write(n + 1) <= n {
+            return false;
+        }
+        self.jump_quietly(n);
+        true
+    }
+
     // Lets n ticks pass and answers how many edges they had.
     pub fn advance(&mut self, n: u64) -> Result<u64, Refusal>
         ensures { Does F.states F.fitting (rules.Call.advance n) self.old (of_advance result) self.new }
@@ -143,6 +167,9 @@ impl<'a, F: Slots> Board<'a, F> {
         // A ghost field that time is within its end would serve this one difference alone, so it saturates.
         if END_OF_TIME.saturating_sub(self.time) < n {
             return Err(Refusal::PastEnd);
+        }
+        if self.pass_quietly(n) {
+            return Ok(0);
         }
         Ok(self.run(n))
     }

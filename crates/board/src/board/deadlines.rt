@@ -45,7 +45,7 @@ impl<'n> Deadlines<'n> {
     // Has every slot announce.
     pub(super) fn new<F: Slots>(nodes: &'n mut [Deadline; 4], slots: &F, now: u64) -> Deadlines<'n>
         requires time { now < 2 ^ 62 }
-        ensures watched { (n ahead : ℕ) → n < 4 → ahead ≤ horizon → Watched F.fitting n ahead now (waiting comes_before result.agenda) (F.states slots.now) }
+        ensures watched { (n ahead : ℕ) → n < 4 → ahead ≤ horizon + 1 → Watched F.fitting n ahead now (waiting comes_before result.agenda) (F.states slots.now) }
     {
         let mut deadlines = Deadlines {
             agenda: Agenda::new(nodes),
@@ -60,7 +60,7 @@ impl<'n> Deadlines<'n> {
     pub(super) fn renew<F: Slots>(&mut self, slots: &F, now: u64)
         requires time { now < 2 ^ 62 }
         ensures ahead { (n : ℕ) → NoneBefore n (now + 1) (waiting comes_before self.new.agenda) }
-        ensures watched { (n ahead : ℕ) → ahead ≤ horizon → Watched F.fitting n ahead now (waiting comes_before self.old.agenda) (F.states slots.now) → Watched F.fitting n ahead now (waiting comes_before self.new.agenda) (F.states slots.now) }
+        ensures watched { (n ahead : ℕ) → ahead ≤ horizon + 1 → Watched F.fitting n ahead now (waiting comes_before self.old.agenda) (F.states slots.now) → Watched F.fitting n ahead now (waiting comes_before self.new.agenda) (F.states slots.now) }
     {
         while let Some(deadline) = self.take_due(now) {
             self.announce(slots, deadline.slot, now);

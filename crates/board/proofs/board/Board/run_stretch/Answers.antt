@@ -26,7 +26,7 @@ loop-left-init g c = record {
   passed = search rules;
   fewer = omega arith;
   idle = c.requires.idle;
-  watched = λ more n few. c.deadlines-deadlines.ensures n (c.args.self.now.time + horizon - c.args.self.now.time) few (omega arith);
+  watched = λ more n few. c.deadlines-deadlines.ensures n (c.args.self.now.time + (horizon + 1) - c.args.self.now.time) few (omega arith);
 }
 
 pub renew-requires : goal.renew-requires
@@ -51,7 +51,7 @@ invariant_of-self g c =
     let before = c.loop-left.self in
     let known = c.loop-left.invariant in
     let ends = same_end s f c.args.ticks c.loop-left.left c.args.self.now before _ _ known.passed in
-    let ahead = c.args.self.now.time + horizon - before.time in
+    let ahead = c.args.self.now.time + (horizon + 1) - before.time in
     let found = c.until_first-quiet.ensures in
     record {
       handed_over = before.handed_over;
@@ -85,7 +85,7 @@ loop-left-preserved g c =
     let known = c.loop-left.invariant in
     let start = c.args.self.now.time in
     let begun = same_end s f c.args.ticks left c.args.self.now before _ _ known.passed in
-    let ahead = start + horizon - before.time in
+    let ahead = start + (horizon + 1) - before.time in
     let arrived : Arrives s f stride c.arrive-edges.result before after = record { same = c.arrive-edges.ensures.same; few = c.arrive-edges.ensures.few; nodes = c.arrive-edges.ensures.nodes } in
     let ds = waiting comes_before c.renew.new.self.agenda in
     let now = s before.ports.slots in
@@ -111,8 +111,8 @@ loop-left-preserved g c =
           subst (NoneDue (after.time + i)) bag (subst (λ t. NoneDue t (view s before).pending) (omega arith) due_later);
       watched = λ more n few.
           let on = later_watched f n stride ahead before.time ds now (s after.ports.slots) (omega (arith, found.most)) (λ _. ap slots_of (alone (omega arith))) (watched n few) in
-          let to_end : ahead - stride ≡ start + horizon - (before.time + stride) = omega arith in
-          subst (λ t. Watched f n (start + horizon - t) t ds (s after.ports.slots)) (sym time) (subst (λ m. Watched f n m (before.time + stride) ds (s after.ports.slots)) to_end on);
+          let to_end : ahead - stride ≡ start + (horizon + 1) - (before.time + stride) = omega arith in
+          subst (λ t. Watched f n (start + (horizon + 1) - t) t ds (s after.ports.slots)) (sym time) (subst (λ m. Watched f n m (before.time + stride) ds (s after.ports.slots)) to_end on);
     }
 
 pub returns : goal.returns

@@ -15,7 +15,7 @@ invariant-loop-left g l =
       passed : Progress s f (ticking f l.ticks) (ticking f l.left) (l.ticks - l.left) l.edges l.initial.self l.self;
       fewer : l.left ≤ l.ticks;
       idle : Idle f (l.left - 1) (view s l.self);
-      watched : 0 < l.left → (n : ℕ) → n < 4 → Watched f n (l.initial.self.time + horizon - l.self.time) l.self.time (waiting comes_before l.deadlines.agenda) (s l.self.ports.slots);
+      watched : 0 < l.left → (n : ℕ) → n < 4 → Watched f n (l.initial.self.time + (horizon + 1) - l.self.time) l.self.time (waiting comes_before l.deadlines.agenda) (s l.self.ports.slots);
     }
 
 abbrev pub decreases-loop-left : goal.decreases-loop-left
