@@ -10,7 +10,7 @@ ghost use Rattle.board.specs.Answers.{of_advance};
 ghost use Rattle.board.specs.View.{view, Does};
 
 use super::deadlines::{Deadline, Deadlines};
-use super::{Board, END_OF_TIME};
+use super::{Board, END_OF_TIME, quiet_after};
 use device::HORIZON;
 use rules::Refusal;
 use slots::Slots;
@@ -22,8 +22,9 @@ impl<'a, F: Slots> Board<'a, F> {
     {
         let write = self.queue.first().filter(|write| write.tick == self.time)?;
         let _ = self.queue.take();
-        self.ports.write(F::target(write.port), write.byte);
-        self.quiet_until = 0;
+        let target = F::target(write.port);
+        self.ports.write(target, write.byte);
+        self.quiet_until = quiet_after(target, self.quiet_until);
         Some(self.ports.hand_over())
     }
 
@@ -38,15 +39,15 @@ impl<'a, F: Slots> Board<'a, F> {
         edges
     }
 
-    // Jumps k ticks on, on which no level changes. A handing would do nothing there, since the board is settled, and is left out.
-    fn jump_quietly(&mut self, k: u64)
-        requires near { k ≤ horizon }
-        requires quiet { self.old.time + k < self.old.quiet_until }
-        ensures moved { view F.states self.new ≡ later F.fitting k (view F.states self.old) }
+    // Jumps n ticks on, on which no level changes. A handing would do nothing there, since the board is settled, and is left out.
+    fn jump_quietly(&mut self, n: u64)
+        requires near { n ≤ horizon }
+        requires quiet { self.old.time + n < self.old.quiet_until }
+        ensures moved { view F.states self.new ≡ later F.fitting n (view F.states self.old) }
         ensures queue { self.new.queue ≡ self.old.queue }
     {
-        self.ports.slots.skip(k);
-        self.time += k;
+        self.ports.slots.skip(n);
+        self.time += n;
     }
 
     // Jumps k ticks on: the devices skip them, and the levels are handed over once. Answers the edges of the handing.

@@ -6,7 +6,7 @@ ghost use Rattle.board.specs.View.{view, Does};
 ghost use Rattle.board.specs.Answers.{of_queue};
 
 use super::handing::Ports;
-use super::{Board, END_OF_TIME};
+use super::{Board, END_OF_TIME, quiet_after};
 use agenda::Agenda;
 use i8259::{Chip, Which};
 use rules::{QueuedWrite, Refusal};
@@ -50,8 +50,9 @@ impl<'a, F: Slots> Board<'a, F> {
     pub fn read(&mut self, port: u16) -> u8
         ensures { Does F.states F.fitting (rules.Call.read port) self.old (rules.Answer.byte_given result) self.new }
     {
-        let byte = self.ports.read(F::target(port));
-        self.quiet_until = 0;
+        let target = F::target(port);
+        let byte = self.ports.read(target);
+        self.quiet_until = quiet_after(target, self.quiet_until);
         self.ports.hand_over();
         byte
     }
@@ -59,8 +60,9 @@ impl<'a, F: Slots> Board<'a, F> {
     pub fn write(&mut self, port: u16, byte: u8)
         ensures { Does F.states F.fitting (rules.Call.write port byte) self.old rules.Answer.done self.new }
     {
-        self.ports.write(F::target(port), byte);
-        self.quiet_until = 0;
+        let target = F::target(port);
+        self.ports.write(target, byte);
+        self.quiet_until = quiet_after(target, self.quiet_until);
         self.ports.hand_over();
     }
 

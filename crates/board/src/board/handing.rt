@@ -3,7 +3,7 @@ ghost use Rattle.std.specs.Prelude.{◌≡◌, ℕ, ◌<◌, ◌≤◌, List};
 ghost use Rattle.rules.specs.I8259.{bit, drive_lines, standing_pair};
 ghost use Rattle.rules.specs.Board.{on_line, edges_between, byte_at, after_read_at, after_write_at, lines as wiring};
 ghost use Rattle.rules.specs.declared.queued.QueuedWrite.{QueuedWrite};
-ghost use Rattle.slots.specs.Slots.{levels_of, target_of};
+ghost use Rattle.slots.specs.Slots.{levels_of, slots_after_read, slots_after_write, target_of};
 ghost use Rattle.board.specs.Wiring.{with_line};
 ghost use Rattle.board.specs.Placing.{placed};
 
@@ -66,6 +66,7 @@ impl<F: Slots> Ports<F> {
     pub(super) fn read(&mut self, target: Target) -> u8
         ensures byte { (time nodes : ℕ) (pending : List QueuedWrite) → result ≡ byte_at F.fitting (target_of target) (placed F.states self.old time pending nodes) }
         ensures ports { (time nodes : ℕ) (pending : List QueuedWrite) → placed F.states self.new time pending nodes ≡ after_read_at F.fitting (target_of target) (placed F.states self.old time pending nodes) }
+        ensures slots { F.states self.new.slots ≡ slots_after_read F.fitting target (F.states self.old.slots) }
     {
         match target {
             Target::Chip(which, at) => self.pair.read(which, at),
@@ -74,7 +75,8 @@ impl<F: Slots> Ports<F> {
     }
 
     pub(super) fn write(&mut self, target: Target, byte: u8)
-        ensures { (time nodes : ℕ) (pending : List QueuedWrite) → placed F.states self.new time pending nodes ≡ after_write_at F.fitting (target_of target) byte (placed F.states self.old time pending nodes) }
+        ensures slots { F.states self.new.slots ≡ slots_after_write F.fitting target byte (F.states self.old.slots) }
+        ensures ports { (time nodes : ℕ) (pending : List QueuedWrite) → placed F.states self.new time pending nodes ≡ after_write_at F.fitting (target_of target) byte (placed F.states self.old time pending nodes) }
     {
         match target {
             Target::Chip(which, at) => self.pair.write(which, at, byte),

@@ -39,8 +39,8 @@ returns g c =
     let bag : b.pending ≡ w ∷ ws = taken_first w b.pending ws c.take.result _ first.0 c.take.ensures.taken in
     let nodes = usable new.nodes.now in
     let written : placed g.F.Slots.states c.write.new.self b.time ws nodes ≡ after_write_at f (Rattle.rules.specs.Board.target f w.port) w.byte (with_pending ws b) =
-    c.write.ensures b.time nodes ws
-    ∙ ap₂ (λ t n. after_write_at f t w.byte (with_bag b ws n)) c.target.ensures (ap (min 4096) c.take.ensures.kept.number) in
+    c.write.ensures.ports b.time nodes ws
+    ∙ ap₂ (λ t n. after_write_at f t w.byte (with_bag b ws n)) c.target-target.ensures (ap (min 4096) c.take.ensures.kept.number) in
     let handed = c.hand_over.ensures in
     let shorter : length b.pending ≡ length (w ∷ ws) = ap length bag in (
       record {

@@ -11,7 +11,7 @@ invariant_of-self g c =
     let board = c.args.self.now in
     let f = g.F.Slots.fitting in
     let s = g.F.Slots.states board.ports.slots in
-    let k = c.args.k in
+    let k = c.args.n in
     let skipped : g.F.Slots.states c.skip.new.self ≡ ticked f k s = c.skip.ensures ∙ ap (λ n. ticked f n s) (min-eq_left c.requires.near) in
     record {
       handed_over = board.handed_over ∙ sym (ap (levels_of f) skipped ∙ board.quiet k (omega (arith, c.requires.quiet)));
@@ -24,6 +24,6 @@ returns-clause-moved g c =
     let board = c.args.self.now in
     let f = g.F.Slots.fitting in
     let s = g.F.Slots.states board.ports.slots in
-    let skipped : g.F.Slots.states c.skip.new.self ≡ ticked f c.args.k s = c.skip.ensures ∙ ap (λ n. ticked f n s) (min-eq_left c.requires.near) in
+    let skipped : g.F.Slots.states c.skip.new.self ≡ ticked f c.args.n s = c.skip.ensures ∙ ap (λ n. ticked f n s) (min-eq_left c.requires.near) in
     let b = view g.F.Slots.states board in
-    ap (λ t. moved_to t (b.time + c.args.k) b) skipped
+    ap (λ t. moved_to t (b.time + c.args.n) b) skipped
