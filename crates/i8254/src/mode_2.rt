@@ -3,7 +3,7 @@ ghost use Rattle.std.specs.Prelude.{◌≡◌, ◌%◌, ◌==◌, not, Some};
 ghost use Rattle.rules.specs.Device.{Announces, ticks};
 ghost use Rattle.rules.specs.I8254.{complete};
 ghost use Rattle.i8254_laws.specs.Counters.{mode_2_counter};
-ghost use Rattle.i8254_laws.specs.Machines.{counting};
+ghost use Rattle.i8254_laws.specs.Machines.{counting, Turns};
 ghost use Rattle.i8254.specs.Views.{view_rate};
 
 use crate::count::{Period, past_whole, ticks_to_zero};
@@ -68,6 +68,17 @@ impl Rate {
             1
         } else {
             ticks_to_zero(self.value) - 1
+        }
+    }
+
+    // When OUT changes: the counter comes to 1, or loads the count.
+    pub fn turned(self) -> Self
+        ensures { Turns counting (view_rate self) (view_rate result) }
+    {
+        if self.value == 1 {
+            Self::loaded(self.period)
+        } else {
+            Self { value: 1, ..self }
         }
     }
 }

@@ -2,7 +2,7 @@
 ghost use Rattle.std.specs.Prelude.{◌≡◌, ◌<◌, Some};
 ghost use Rattle.rules.specs.Device.{Announces, ticks};
 ghost use Rattle.rules.specs.I8254.{complete, half_length};
-ghost use Rattle.i8254_laws.specs.Machines.{counting};
+ghost use Rattle.i8254_laws.specs.Machines.{counting, Turns};
 ghost use Rattle.i8254_laws.specs.Mode3.{begun, part_of_half};
 ghost use Rattle.i8254.specs.Views.{view_square};
 
@@ -78,5 +78,12 @@ impl Square {
         ensures { Announces counting (view_square self) (Some result) }
     {
         u64::from(self.left) + 1
+    }
+
+    // When OUT changes, the other half begins.
+    pub fn turned(self) -> Self
+        ensures { Turns counting (view_square self) (view_square result) }
+    {
+        Self::part_of_half(self.period, !self.high, 0)
     }
 }

@@ -1,5 +1,6 @@
 -- A counter and a channel as state machines of their own, so that ticks and announcements have one meaning for both and the timer.
-use Rattle.rules.specs.Device.{Meaning}
+use Rattle.std.specs.Prelude.{◌≡◌, ℕ, Some}
+use Rattle.rules.specs.Device.{Meaning, ticks, Announces}
 use Rattle.rules.specs.I8254.{Counter, Channel, tick_counter, tick_channel, byte_of_count, after_read_count, write_count}
 
 -- A counter alone has no port.
@@ -22,3 +23,7 @@ channel = record {
   after_read = λ ch offset. after_read_count ch;
   after_write = λ ch offset byte. write_count byte ch;
 }
+
+-- What a machine in state s is when the level changes that it announces.
+abbrev pub Turns : {S : Type 0} → Meaning S → S → S → Type 0
+Turns m s t = (k : ℕ) → Announces m s (Some k) → t ≡ ticks m k s

@@ -1,15 +1,15 @@
 -- Mode 2: the counter goes down from its count to 1 and loads the count again. With a value v that stands for r, 1 to 65,536,
 -- r ticks pass until the next load.
-use Rattle.std.specs.Prelude.{◌≡◌, ℕ, zero, suc, ◌+◌, ◌-◌, ◌%◌, ◌<◌, ◌≤◌, true, false, not, Some, ◌==◌, refl}
-use Rattle.std.proofs.Common.{sym, ap, ◌∙◌, mod-lt, arith}
+use Rattle.std.specs.Prelude.{◌≡◌, ℕ, zero, suc, ◌+◌, ◌-◌, ◌%◌, ◌<◌, ◌≤◌, true, false, not, Some, ◌==◌, ◌≢◌, refl}
+use Rattle.std.proofs.Common.{sym, ap, ◌∙◌, subst, mod-lt, arith}
 use Rattle.std.proofs.lemmas.Bool.{eq-eqb, true≢false, false≢true}
 use Rattle.std.proofs.lemmas.Bool.Decides.{nat_tests}
 use Rattle.rules.specs.Device.{ticks, level_after, Announces}
 use Rattle.rules.specs.TickLaws.{ticks_first}
 use Rattle.rules.specs.I8254.{tick_counter, mode_2, down, count_meant}
-use Rattle.i8254_laws.specs.Machines.{counting}
+use Rattle.i8254_laws.specs.Machines.{counting, Turns}
 use Rattle.i8254_laws.specs.Counters.{unloaded, mode_2_counter}
-use Rattle.i8254_laws.specs.Runs.{in_parts, periodic, announces_later}
+use Rattle.i8254_laws.specs.Runs.{in_parts, periodic, announces_later, turns}
 
 -- A count as written, below 65,536, means 2 to 65,536 in modes 2 and 3.
 pub meant_within : (w : ℕ) → w < 65536 → (2 ≤ count_meant mode_2 w) × (count_meant mode_2 w ≤ 65536)
@@ -87,6 +87,22 @@ rate_low_announces n few most = (omega arith, omega arith, before, λ e. true≢
     before : (j : ℕ) → j < 1 → level_after counting j (mode_2_counter n 1) ≡ false
     before zero h = refl
     before (suc j) h = absurd (omega arith)
+
+-- Where OUT goes low, and where it goes high.
+falls : (n r : ℕ) → 2 ≤ r → r ≤ 65536 → Turns counting (mode_2_counter n (r % 65536)) (mode_2_counter n 1)
+falls n r few many =
+    let one : (r - (r - 1)) % 65536 ≡ 1 = omega arith in
+    turns counting (mode_2_counter n (r % 65536)) (mode_2_counter n 1) (r - 1) (rate_announces n r few many) (rate_before (r - 1) n r (omega arith) many ∙ ap (mode_2_counter n) one)
+
+pub rate_falls : (n v : ℕ) → v < 65536 → v ≢ 1 → Turns counting (mode_2_counter n v) (mode_2_counter n 1)
+rate_falls n zero h not_1 = falls n 65536 (omega arith) (omega arith)
+rate_falls n (suc v) h not_1 =
+    let held : suc v % 65536 ≡ suc v = omega arith in
+    subst (λ w. Turns counting (mode_2_counter n w) (mode_2_counter n 1)) held (falls n (suc v) (omega arith) (omega arith))
+
+pub rate_rises : (n : ℕ) → 2 ≤ n → n ≤ 65536 → Turns counting (mode_2_counter n 1) (mode_2_counter n (n % 65536))
+rate_rises n few most =
+    turns counting (mode_2_counter n 1) (mode_2_counter n (n % 65536)) 1 (rate_low_announces n few most) (rate_load n 1 (omega arith) (omega arith) few most)
 
 -- Before the first load OUT is high, and then stays high until the counter comes to 1.
 pub rate_start_announces : (n v : ℕ) → 2 ≤ n → n ≤ 65536 → Announces counting (unloaded mode_2 (Some n) v) (Some n)

@@ -6,9 +6,9 @@ use Rattle.rules.specs.Device.{ticks, Announces}
 use Rattle.rules.specs.TickLaws.{ticks_add, ticks_first}
 use Rattle.rules.specs.Flips.{flip_differs}
 use Rattle.rules.specs.I8254.{Counter, tick_counter, mode_3, down, half_length}
-use Rattle.i8254_laws.specs.Machines.{counting}
+use Rattle.i8254_laws.specs.Machines.{counting, Turns}
 use Rattle.i8254_laws.specs.Counters.{less, unloaded, mode_3_counter}
-use Rattle.i8254_laws.specs.Runs.{in_parts, periodic, announces_later}
+use Rattle.i8254_laws.specs.Runs.{in_parts, periodic, announces_later, turns}
 
 -- Where a half of the count n begins.
 abbrev pub even_part : ℕ → ℕ
@@ -65,6 +65,12 @@ period_over n high h =
 abbrev pub part_of_half : ℕ → Bool → ℕ → Counter
 part_of_half n high k = mode_3_counter n high (half_length high n - 1 - k) (less (2 * k) (even_part n))
 
+pub half_begins : (n : ℕ) (high : Bool) → part_of_half n high 0 ≡ begun n high
+half_begins n high =
+    let e : half_length high n - 1 - 0 ≡ half_length high n - 1 = omega arith in
+    let f : less (2 * 0) (even_part n) ≡ even_part n = omega arith in
+    ap₂ (mode_3_counter n high) e f
+
 -- k ticks after a half began the counter is in such a half again, or in the other one.
 pub square_first : (k n : ℕ) (high : Bool) → 2 ≤ n → k % n < half_length high n → ticks counting k (begun n high) ≡ part_of_half n high (k % n)
 square_first k n high h within =
@@ -96,6 +102,10 @@ square_starts k n v = ticks_first counting k (unloaded mode_3 (Some n) v)
 pub square_announces : (n left v : ℕ) (high : Bool) → v < 65536 → left < 65536 → Announces counting (mode_3_counter n high left v) (Some (left + 1))
 square_announces n left v high few short =
     (omega arith, omega arith, (λ j h. ap counting.level (square_within j n left v high (omega arith) few)), λ e. flip_differs high (sym (ap counting.level (square_turns n left v high few)) ∙ e))
+
+pub square_turned : (n left v : ℕ) (high : Bool) → v < 65536 → left < 65536 → Turns counting (mode_3_counter n high left v) (begun n (not high))
+square_turned n left v high few short =
+    turns counting (mode_3_counter n high left v) (begun n (not high)) (left + 1) (square_announces n left v high few short) (square_turns n left v high few)
 
 pub square_start_announces : (n v : ℕ) → 2 ≤ n → n ≤ 65536 → Announces counting (unloaded mode_3 (Some n) v) (Some (half_length true n + 1))
 square_start_announces n v h most =

@@ -3,11 +3,12 @@ use Rattle.std.specs.Prelude.{◌≡◌, ℕ, zero, suc, ◌+◌, ◌*◌, ◌/�
 use Rattle.std.proofs.Common.{sym, ◌∙◌, div-add-mod', arith}
 use Rattle.std.proofs.Math.Path.{ap}
 use Rattle.std.proofs.Math.Nat.{zero-mul, suc-mul}
-use Rattle.std.proofs.lemmas.Bool.{false≢true}
+use Rattle.std.proofs.Common.{inl, inr}
+use Rattle.std.proofs.lemmas.Bool.{false≢true, cases_lt}
 use Rattle.rules.specs.Device.{Meaning, ticks, level_after, Announces, horizon}
 use Rattle.rules.specs.TickLaws.{ticks_add, ticks_first, ticks_still}
 use Rattle.rules.specs.I8254.{Timer, Channel, Counter, Mode, mode_0, mode_1, mode_2, mode_3, mode_4, mode_5, is_mode_0, timer, tick_counter, with_counter}
-use Rattle.i8254_laws.specs.Machines.{counting, channel}
+use Rattle.i8254_laws.specs.Machines.{counting, channel, Turns}
 
 -- What comes back after p ticks is after n ticks where it is after the rest of n by p.
 module _ {S : Type 0} (m : Meaning S) (p : ℕ) (s : S) (back : ticks m p s ≡ s) where
@@ -36,6 +37,22 @@ announces_later m s next k to same near a =
     before : (j : ℕ) → j < k + 1 → level_after m j s ≡ m.level s
     before zero h = refl
     before (suc j) h = at j ∙ a.2 j (omega arith) ∙ same
+
+-- A change is announced by one number alone, so that any run to it ends in one state.
+not_before : {S : Type 0} (m : Meaning S) (s : S) (a b : ℕ) → Announces m s (Some a) → Announces m s (Some b) → a < b → ⊥
+not_before m s a b at later less = at.3 (later.2 a less)
+
+announced_once : {S : Type 0} (m : Meaning S) (s : S) (a b : ℕ) → Announces m s (Some a) → Announces m s (Some b) → a ≡ b
+announced_once m s a b at other = elim (cases_lt a b) [
+  | inl less ↦ absurd (not_before m s a b at other less)
+  | inr least ↦ elim (cases_lt b a) [
+    | inl more ↦ absurd (not_before m s b a other at more)
+    | inr most ↦ omega arith
+  ]
+]
+
+pub turns : {S : Type 0} (m : Meaning S) (s t : S) (a : ℕ) → Announces m s (Some a) → ticks m a s ≡ t → Turns m s t
+turns m s t a at is = λ k announced. sym is ∙ ap (λ n. ticks m n s) (announced_once m s a k at announced)
 
 -- The channels of a timer tick side by side. By the ticks themselves, as three uses of `ticks_along` would be longer.
 pub ticks_timer : (n : ℕ) (t : Timer) → ticks timer n t ≡ record { channel_0 = ticks channel n t.channel_0; channel_1 = ticks channel n t.channel_1; channel_2 = ticks channel n t.channel_2 }
