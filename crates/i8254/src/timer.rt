@@ -17,7 +17,7 @@ use device::{Device, HORIZON};
 pub struct Timer {
     // As they were `lag` ticks ago.
     channels: Channels,
-    // What was foreseen then.
+    // What was foreseen of OUT then.
     forecast: Forecast,
     // The ticks that the channels have not had yet: they catch up only where OUT changes or a port is reached.
     lag: u64,
@@ -40,7 +40,7 @@ impl Timer {
         }
     }
 
-    // The channels have n ticks, the lag among them.
+    // The channels have n ticks, those that they lack among them.
     fn catch_up(&mut self, n: u64)
         ensures { view self.new ≡ ticks timer n (view_channels self.old.channels) }
     {

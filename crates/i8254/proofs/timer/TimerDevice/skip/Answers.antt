@@ -1,7 +1,6 @@
-use Rattle.std.proofs.Common.{◌≡◌, ◌+◌, ◌∙◌, min}
-use Rattle.rules.specs.Device.{ticks, horizon}
+use Rattle.std.proofs.Common.{◌≡◌, ◌∙◌, min}
+use Rattle.rules.specs.Device.{horizon}
 use Rattle.rules.specs.TickLaws.{ticks_add}
-use Rattle.rules.specs.I8254 as rules
 use Rattle.rules.specs.I8254.{timer}
 use Rattle.i8254.specs.Channels.{view_channels}
 use Rattle.i8254.proofs.timer.TimerDevice.skip.Goals as goal
