@@ -1,11 +1,12 @@
 // A channel: a counting element behind the bytes that a program writes and reads.
 ghost use Rattle.std.specs.Prelude.{◌≡◌};
-ghost use Rattle.rules.specs.Device.{Announces, ticks};
+ghost use Rattle.rules.specs.Device.{ticks};
 ghost use Rattle.rules.specs.I8254.{after_read_count, byte_of_count, latch_count, power_on_channel, program, shown, write_count};
+ghost use Rattle.i8254_laws.specs.Foresight.{Foresees};
 ghost use Rattle.i8254_laws.specs.Machines.{channel};
 ghost use Rattle.i8254_laws.specs.Runs.{held};
 ghost use Rattle.i8254.specs.Control.{view_access, view_mode, effect};
-ghost use Rattle.i8254.specs.Views.{view_channel};
+ghost use Rattle.i8254.specs.Channels.{view_channel};
 
 use crate::control::{Access, Command, Mode};
 use crate::counter::Counter;
@@ -139,7 +140,7 @@ impl Channel {
 
     // The first tick after which OUT differs.
     pub fn announce(&self) -> Option<u64>
-        ensures { Announces channel (view_channel self.now) result }
+        ensures { Foresees channel (view_channel self.now) result }
     {
         if self.is_held() {
             None

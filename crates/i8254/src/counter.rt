@@ -1,10 +1,11 @@
 // The counting element of a channel, with its count register and its OUT pin.
 ghost use Rattle.std.specs.Prelude.{◌≡◌, false, not, None};
-ghost use Rattle.rules.specs.Device.{Announces, ticks};
+ghost use Rattle.rules.specs.Device.{ticks};
 ghost use Rattle.rules.specs.I8254.{complete, first_byte, is_mode_0};
+ghost use Rattle.i8254_laws.specs.Foresight.{Foresees};
 ghost use Rattle.i8254_laws.specs.Machines.{counting};
 ghost use Rattle.i8254.specs.Control.{view_mode};
-ghost use Rattle.i8254.specs.Views.{view_counter};
+ghost use Rattle.i8254.specs.Channels.{view_counter};
 
 use crate::control::{Mode, Periodic, Untriggered};
 use crate::mode_0::TerminalCount;
@@ -107,7 +108,7 @@ impl Counter {
 
     // The first tick after which OUT differs.
     pub fn announce(self) -> Option<u64>
-        ensures { Announces counting (view_counter self) result }
+        ensures { Foresees counting (view_counter self) result }
     {
         match self {
             Counter::TerminalCount(counter) => counter.announce(),

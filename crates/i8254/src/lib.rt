@@ -2,9 +2,11 @@
 #![tactic(auto)]
 
 mod channel;
+mod channels;
 mod control;
 mod count;
 mod counter;
+mod forecast;
 mod mode_0;
 mod mode_2;
 mod mode_3;

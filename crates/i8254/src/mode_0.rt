@@ -1,10 +1,11 @@
 // Mode 0, interrupt on terminal count.
 ghost use Rattle.std.specs.Prelude.{◌≡◌, true, false, None};
-ghost use Rattle.rules.specs.Device.{Announces, ticks};
+ghost use Rattle.rules.specs.Device.{ticks};
 ghost use Rattle.rules.specs.I8254.{complete, first_byte};
 ghost use Rattle.i8254_laws.specs.Counters.{mode_0_counter};
+ghost use Rattle.i8254_laws.specs.Foresight.{Foresees};
 ghost use Rattle.i8254_laws.specs.Machines.{counting};
-ghost use Rattle.i8254.specs.Views.{view_terminal_count};
+ghost use Rattle.i8254.specs.Channels.{view_terminal_count};
 
 use crate::count::{less, ticks_to_zero};
 
@@ -78,7 +79,7 @@ impl TerminalCount {
 
     // When OUT rises. Once it is high, no tick puts it low.
     pub fn announce(self) -> Option<u64>
-        ensures { Announces counting (view_terminal_count self) result }
+        ensures { Foresees counting (view_terminal_count self) result }
     {
         if self.out {
             return None;

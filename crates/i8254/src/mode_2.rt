@@ -4,7 +4,7 @@ ghost use Rattle.rules.specs.Device.{Announces, ticks};
 ghost use Rattle.rules.specs.I8254.{complete};
 ghost use Rattle.i8254_laws.specs.Counters.{mode_2_counter};
 ghost use Rattle.i8254_laws.specs.Machines.{counting, Turns};
-ghost use Rattle.i8254.specs.Views.{view_rate};
+ghost use Rattle.i8254.specs.Channels.{view_rate};
 
 use crate::count::{Period, past_whole, ticks_to_zero};
 use device::bits_of;

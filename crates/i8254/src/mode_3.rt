@@ -4,7 +4,7 @@ ghost use Rattle.rules.specs.Device.{Announces, ticks};
 ghost use Rattle.rules.specs.I8254.{complete, half_length};
 ghost use Rattle.i8254_laws.specs.Machines.{counting, Turns};
 ghost use Rattle.i8254_laws.specs.Mode3.{begun, part_of_half};
-ghost use Rattle.i8254.specs.Views.{view_square};
+ghost use Rattle.i8254.specs.Channels.{view_square};
 
 use crate::count::{Period, less, past_whole};
 use device::bits_of;

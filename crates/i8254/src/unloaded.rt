@@ -1,8 +1,9 @@
 // Counters of modes 1 to 5 before their first load. OUT is high and the value stays.
 ghost use Rattle.std.specs.Prelude.{◌≡◌, Some, None};
-ghost use Rattle.rules.specs.Device.{Announces, ticks};
+ghost use Rattle.rules.specs.Device.{ticks};
+ghost use Rattle.i8254_laws.specs.Foresight.{Foresees};
 ghost use Rattle.i8254_laws.specs.Machines.{counting};
-ghost use Rattle.i8254.specs.Views.{view_starting, view_counter};
+ghost use Rattle.i8254.specs.Channels.{view_starting, view_counter};
 
 use crate::control::Periodic;
 use crate::count::Period;
@@ -58,7 +59,7 @@ impl Unloaded<Periodic> {
 
     // When OUT first falls.
     pub fn announce(self) -> Option<u64>
-        ensures { Announces counting (view_starting self) result }
+        ensures { Foresees counting (view_starting self) result }
     {
         let period = Period::from(self.count?);
         Some(match self.mode {

@@ -1,4 +1,5 @@
 pub mod Machines
+pub mod Foresight
 pub mod Counters
 pub mod Runs
 pub mod Mode0

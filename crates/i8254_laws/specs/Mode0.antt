@@ -6,9 +6,10 @@ use Rattle.std.proofs.Math.Bool.{or-false, or-true}
 use Rattle.std.proofs.lemmas.Bool.{ne_eqb, true≢false, cases_lt, le-leb, lt-leb}
 use Rattle.std.proofs.lemmas.Bool.Decides.{nat_tests}
 use Rattle.rules.specs.Device.{ticks, Announces}
-use Rattle.rules.specs.TickLaws.{ticks_first, still_announces}
+use Rattle.rules.specs.TickLaws.{ticks_first}
 use Rattle.rules.specs.I8254.{Counter, tick_counter, down, count_meant, mode_0}
 use Rattle.i8254_laws.specs.Machines.{counting}
+use Rattle.i8254_laws.specs.Foresight.{Foresees, still_foresees}
 use Rattle.i8254_laws.specs.Counters.{less, mode_0_counter}
 use Rattle.i8254_laws.specs.Runs.{in_parts, announces_later}
 
@@ -88,12 +89,12 @@ terminal_waits_announces n v loaded some many =
     announces_later counting (mode_0_counter false loaded (Some n) v) (running false (n % 65536)) n refl refl (omega arith) (terminal_announces n some many)
 
 -- OUT high stays.
-loads_high : (n v : ℕ) (loaded : Bool) → Announces counting (mode_0_counter true loaded (Some n) v) None
+loads_high : (n v : ℕ) (loaded : Bool) → Foresees counting (mode_0_counter true loaded (Some n) v) None
 unfolding ticks
-loads_high n v loaded zero near = refl
-loads_high n v loaded (suc j) near = ap counting.level (risen j (n % 65536) (omega arith))
+loads_high n v loaded zero = refl
+loads_high n v loaded (suc j) = ap counting.level (risen j (n % 65536) (omega arith))
 
-pub high_stays : (v : ℕ) (loaded : Bool) (waiting : Option ℕ) → v < 65536 → Announces counting (mode_0_counter true loaded waiting v) None
+pub high_stays : (v : ℕ) (loaded : Bool) (waiting : Option ℕ) → v < 65536 → Foresees counting (mode_0_counter true loaded waiting v) None
 high_stays v loaded (Some n) h = loads_high n v loaded
-high_stays v true None h = λ j near. ap counting.level (risen j v h)
-high_stays v false None h = still_announces counting (mode_0_counter true false None v) refl
+high_stays v true None h = λ j. ap counting.level (risen j v h)
+high_stays v false None h = still_foresees counting (mode_0_counter true false None v) refl

@@ -1,7 +1,7 @@
 // Runs the timer through the cases of its input, and prints what channel 0 shows. A line that begins with # names a case,
 // which starts at power on. The others are `write OFFSET BYTE`, `read OFFSET`, `announce`, `ticks N` and `byte-ticks N`, which
-// show OUT and the counter, by both its bytes or by one, after each tick, and `jumps FROM TO`, which holds each skip of that many
-// ticks against single ticks.
+// show OUT and the counter, by both its bytes or by one, after each tick, `skip N`, which shows them, by one byte, after N ticks at
+// once, and `jumps FROM TO`, which holds each skip of that many ticks against single ticks.
 #![tactic(auto)]
 
 use anyhow::anyhow;
@@ -36,6 +36,8 @@ enum Command {
     Announce,
     // OUT and the counter after each of n ticks.
     Ticks { n: u64, bytes: Bytes },
+    // OUT and the counter after n ticks at once.
+    Skip { n: u64 },
     Jumps { from: u64, to: u64 },
 }
 
@@ -75,6 +77,13 @@ fn tick_by_tick(rt: &impl Print, timer: &mut Timer, bytes: Bytes, n: u64) -> any
         let now = look(timer, bytes);
         println!(rt; "{now}")?;
     }
+    Ok(())
+}
+
+fn skip(rt: &impl Print, timer: &mut Timer, n: u64) -> anyhow::Result<()> {
+    timer.skip(n);
+    let now = look(timer, Bytes::One);
+    println!(rt; "{now}")?;
     Ok(())
 }
 
@@ -145,6 +154,9 @@ impl FromStr for Command {
                 n: parsed(words.next(), "a number")?,
                 bytes: Bytes::One,
             },
+            Some("skip") => Command::Skip {
+                n: parsed(words.next(), "a number")?,
+            },
             Some("jumps") => Command::Jumps {
                 from: parsed(words.next(), "a number")?,
                 to: parsed(words.next(), "a number")?,
@@ -170,6 +182,7 @@ fn run(rt: &impl Print, timer: &mut Timer, line: &str) -> anyhow::Result<()> {
         }
         Command::Announce => announce(rt, timer)?,
         Command::Ticks { n, bytes } => tick_by_tick(rt, timer, bytes, n)?,
+        Command::Skip { n } => skip(rt, timer, n)?,
         Command::Jumps { from, to } => jumps(rt, timer, from, to)?,
     }
     Ok(())

@@ -1,7 +1,7 @@
 use Rattle.std.proofs.Common.{sym, ap, ◌∙◌}
 use Rattle.rules.specs.I8254.{with_counter}
 use Rattle.i8254_laws.specs.Runs.{held_run, free_run}
-use Rattle.i8254.specs.Views.{view_channel}
+use Rattle.i8254.specs.Channels.{view_channel}
 use Rattle.i8254.proofs.channel.Channel.skip.Goals as goal
 
 pub returns-then-not-is_held : goal.returns-then-not-is_held

@@ -2,7 +2,7 @@ use Rattle.std.proofs.Common.{sym}
 use Rattle.rules.specs.TickLaws.{ticks_still}
 use Rattle.i8254_laws.specs.Machines.{counting}
 use Rattle.i8254.specs.Control.{untriggered_mode}
-use Rattle.i8254.specs.Views.{meant, view_still}
+use Rattle.i8254.specs.Channels.{meant, view_still}
 use Rattle.i8254.proofs.Standing.{untriggered_still}
 use Rattle.i8254.proofs.counter.Counter.pass.Goals as goal
 

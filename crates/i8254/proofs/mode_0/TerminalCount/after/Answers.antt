@@ -3,7 +3,7 @@ use Rattle.rules.specs.TickLaws.{ticks_still, ticks_zero}
 use Rattle.i8254_laws.specs.Machines.{counting}
 use Rattle.i8254_laws.specs.Counters.{mode_0_counter}
 use Rattle.i8254_laws.specs.Mode0.{terminal_waiting}
-use Rattle.i8254.specs.Views.{view_terminal_count}
+use Rattle.i8254.specs.Channels.{view_terminal_count}
 use Rattle.i8254.proofs.mode_0.TerminalCount.after.Goals as goal
 
 pub returns-in-Some-checked_sub : goal.returns-in-Some-checked_sub

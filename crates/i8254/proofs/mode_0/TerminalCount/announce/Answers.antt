@@ -3,9 +3,9 @@ use Rattle.rules.specs.Device.{Announces}
 use Rattle.rules.specs.I8254.{count_meant, mode_0}
 use Rattle.i8254_laws.specs.Machines.{counting}
 use Rattle.i8254_laws.specs.Counters.{mode_0_counter}
-use Rattle.rules.specs.TickLaws.{still_announces}
+use Rattle.i8254_laws.specs.Foresight.{still_foresees}
 use Rattle.i8254_laws.specs.Mode0.{high_stays, terminal_announces, terminal_waits_announces}
-use Rattle.i8254.specs.Views.{meant}
+use Rattle.i8254.specs.Channels.{meant}
 use Rattle.i8254.proofs.mode_0.TerminalCount.announce.Goals as goal
 
 waits : (loaded : Bool) (w v r : ℕ) → r ≡ count_meant mode_0 w → 1 ≤ r → r ≤ 65536 → Announces counting (mode_0_counter false loaded (Some (count_meant mode_0 w)) v) (Some (r + 1))
@@ -31,4 +31,4 @@ returns-in-None c =
 
 pub returns-in-None-2 : goal.returns-in-None-2
 returns-in-None-2 c =
-    rw (c.if-self.false, c.in-None.is, c.if-self-2.false) (still_announces counting (mode_0_counter false false None c.args.self.value) refl)
+    rw (c.if-self.false, c.in-None.is, c.if-self-2.false) (still_foresees counting (mode_0_counter false false None c.args.self.value) refl)

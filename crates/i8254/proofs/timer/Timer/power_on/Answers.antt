@@ -1,7 +1,8 @@
+use Rattle.std.proofs.Common.{◌∙◌}
 use Rattle.rules.specs.TickLaws.{ticks_zero}
-use Rattle.i8254_laws.specs.Machines.{channel}
-use Rattle.i8254.specs.Views.{view_channel}
+use Rattle.rules.specs.I8254.{timer}
+use Rattle.i8254.specs.Channels.{view_channels}
 use Rattle.i8254.proofs.timer.Timer.power_on.Goals as goal
 
 pub returns : goal.returns
-returns c = rw (ticks_zero channel (view_channel c.power_on-channel.result), c.power_on-channel.ensures)
+returns c = ticks_zero timer (view_channels c.power_on-channels.result) ∙ c.power_on-channels.ensures

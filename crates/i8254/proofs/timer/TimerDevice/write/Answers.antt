@@ -1,12 +1,9 @@
 use Rattle.std.proofs.Common.{◌∙◌, ap}
-use Rattle.rules.specs.I8254.{at_channel, write_count}
-use Rattle.i8254.proofs.Lag.{changed_1, changed_2}
+use Rattle.rules.specs.TickLaws.{ticks_zero}
+use Rattle.rules.specs.I8254.{timer, write_timer}
+use Rattle.i8254.specs.Channels.{view_channels}
 use Rattle.i8254.proofs.timer.TimerDevice.write.Goals as goal
 
-pub returns-in-1 : goal.returns-in-1
-returns-in-1 c =
-    rw c.in-1.is (changed_1 c.catch_up.new.self c.catch_up.ensures.lag (write_count c.args.byte) c.write_count-in-1.new.self c.write_count-in-1.ensures ∙ ap (at_channel 1 (write_count c.args.byte)) c.catch_up.ensures.meaning)
-
-pub returns-in-2 : goal.returns-in-2
-returns-in-2 c =
-    rw c.in-2.is (changed_2 c.catch_up-in-2.new.self c.catch_up-in-2.ensures.lag (write_count c.args.byte) c.write_count-in-2.new.self c.write_count-in-2.ensures ∙ ap (at_channel 2 (write_count c.args.byte)) c.catch_up-in-2.ensures.meaning)
+pub returns : goal.returns
+returns c =
+    ticks_zero timer (view_channels c.write.new.self) ∙ c.write.ensures ∙ ap (λ t. write_timer t c.args.offset c.args.byte) c.skip.ensures

@@ -7,7 +7,7 @@ use Rattle.i8254_laws.specs.Counters.{unloaded, mode_2_counter}
 use Rattle.i8254_laws.specs.Mode2.{rate_starts}
 use Rattle.i8254_laws.specs.Mode3.{begun, square_starts}
 use Rattle.i8254.specs.Control.{periodic_mode}
-use Rattle.i8254.specs.Views.{view_starting}
+use Rattle.i8254.specs.Channels.{view_starting}
 use Rattle.i8254.proofs.Standing.{no_count_still}
 use Rattle.i8254.proofs.unloaded.Unloaded+Periodic.after.Goals as goal
 

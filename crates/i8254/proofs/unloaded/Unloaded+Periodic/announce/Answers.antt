@@ -3,7 +3,7 @@ use Rattle.rules.specs.Device.{Announces}
 use Rattle.rules.specs.I8254.{half_length, mode_2, mode_3}
 use Rattle.i8254_laws.specs.Machines.{counting}
 use Rattle.i8254_laws.specs.Counters.{unloaded}
-use Rattle.rules.specs.TickLaws.{still_announces}
+use Rattle.i8254_laws.specs.Foresight.{still_foresees}
 use Rattle.i8254_laws.specs.Mode2.{rate_start_announces}
 use Rattle.i8254_laws.specs.Mode3.{square_start_announces}
 use Rattle.i8254.specs.Control.{periodic_mode}
@@ -21,7 +21,7 @@ pub returns-in_err-self : goal.returns-in_err-self
 returns-in_err-self c =
     let self = c.args.self in
     let none : self.count ≡ None = c.in_err-self.was in
-    rw (c.from_residual.ensures, none) (still_announces counting (unloaded (periodic_mode self.mode) None self.value) (no_count_still self.mode self.value))
+    rw (c.from_residual.ensures, none) (still_foresees counting (unloaded (periodic_mode self.mode) None self.value) (no_count_still self.mode self.value))
 
 pub returns-in-RateGenerator : goal.returns-in-RateGenerator
 returns-in-RateGenerator c =

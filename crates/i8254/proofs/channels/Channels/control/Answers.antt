@@ -1,7 +1,7 @@
 use Rattle.std.proofs.Common.{◌∙◌, ap}
 use Rattle.rules.specs.I8254.{at_channel, control}
 use Rattle.i8254.proofs.Lag.{changed_1, changed_2}
-use Rattle.i8254.proofs.timer.Timer.control.Goals as goal
+use Rattle.i8254.proofs.channels.Channels.control.Goals as goal
 
 pub returns-in-1 : goal.returns-in-1
 returns-in-1 c =

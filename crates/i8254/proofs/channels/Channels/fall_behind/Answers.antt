@@ -1,7 +1,7 @@
 use Rattle.std.proofs.Common.{◌∙◌, ap, rules, arith}
-use Rattle.i8254.specs.Views.{others_after}
+use Rattle.i8254.specs.Channels.{others_after}
 use Rattle.i8254.proofs.Lag.{longer}
-use Rattle.i8254.proofs.timer.Timer.fall_behind.Goals as goal
+use Rattle.i8254.proofs.channels.Channels.fall_behind.Goals as goal
 
 pub returns-in-Some : goal.returns-in-Some
 returns-in-Some c = longer c.args.self.now c.args.n _ (search rules)
