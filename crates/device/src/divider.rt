@@ -5,31 +5,32 @@ ghost use Rattle.rules.specs.TickLaws.{lagging, due_by, announces_prop, divided_
 
 use crate::device::{Device, HORIZON};
 
-// How long ticks may just be counted.
+// How long the inner device may be left as it is.
 #[derive(Drop)]
 struct Plan {
-    // What the inner device announces in its present state.
+    // What it announces as it is.
     change: Option<u64>,
-    // At so many ticks since its last one it has to be given its share of them.
+    // At so many ticks it has to be given its share of them.
     due: u64,
 }
 
-// Ticks are only counted until the inner device's announcement is due, so that most skips are a sum. It has no `impl Model`: its
-// value would be made of the inner device's state, and a model's `Value` cannot name what belongs to a bound.
+// The tick that ends a period of `factor` ticks makes the inner device tick. It is not made to at once: ticks are counted until they
+// are due, so that most skips are a sum. There is no `impl Model`: its value would be made of the inner device's state, and a model's
+// `Value` cannot name what belongs to a bound.
 #[derive(Drop)]
 pub struct Divider<D: Device> {
     factor: u64,
-    // The ticks since the inner device's last one. It lacks its share of them, on which its level stays.
+    // The ticks since the start of the period for which the inner device stands. Its level stays on them.
     since: u64,
     plan: Plan,
     inner: D,
     ghost bounded: { (1 ≤ factor) × (factor ≤ 64) },
     ghost announced: { Announces D.Device.meaning (D.Device.state inner) plan.change } by { announces_prop D.Device.meaning (D.Device.state inner) plan.change },
     ghost planned: { plan.due ≡ due_by factor plan.change },
-    ghost early: { since < plan.due },
+    ghost early: { since < due_by factor plan.change },
 }
 
-// How often the divisor goes into the dividend, and what is left: its clauses are what the proof of a skip has to know of a division.
+// How often the divisor goes into the dividend, and what is left: its clauses are what proofs have to know of a division.
 fn quotient_and_remainder(dividend: u64, divisor: u64) -> (u64, u64)
     requires { 1 ≤ divisor }
     ensures quotient { result.0 ≡ dividend / divisor }
@@ -37,7 +38,7 @@ fn quotient_and_remainder(dividend: u64, divisor: u64) -> (u64, u64)
     ensures whole { result.0 * divisor + result.1 ≡ dividend }
     ensures below { result.1 < divisor }
 {
-    // Most boards advance by few ticks at a time, and then there is nothing to divide.
+    // Mostly less than a period is left, and then there is nothing to divide.
     if dividend < divisor {
         (0, dividend)
     } else {
@@ -55,14 +56,14 @@ impl Plan {
         let change = inner.announce();
         let due = match change {
             Some(ticks) => ticks * factor,
-            // The device is still known to stay so for as long as anyone may ask, whatever the phase.
+            // Until here the next 2^32 ticks hold no more than 2^32 of the inner device's.
             None => HORIZON * (factor - 1) + 1,
         };
         Plan { change, due }
     }
 }
 
-// Gives the inner device its share of the ticks since its last one, and answers how many of them that leaves.
+// Gives the inner device its share of the ticks, and answers how many of them that leaves in the last period.
 fn catch_up<D: Device>(inner: &mut D, factor: u64, since: u64) -> u64
     requires some { 1 ≤ factor }
     requires near { since ≤ horizon * factor }
@@ -95,7 +96,8 @@ impl<D: Device> Divider<D> {
         }
     }
 
-    // So many ticks after the inner device's last one its share of them is due: first the ticks that it announced, if any.
+    // Goes on to so many ticks, at which the inner device is due: it is given the ticks that it announced, if any, without a
+    // division, and then its share of the rest.
     fn arrive(&mut self, since: u64)
         requires due { self.old.plan.due ≤ since }
         requires near { since < self.old.plan.due + horizon }

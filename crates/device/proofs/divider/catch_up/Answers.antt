@@ -1,7 +1,7 @@
-use Rattle.std.proofs.Common.{◌≡◌, ◌+◌, ◌*◌, ◌/◌, ◌<◌, ◌≤◌, div-lt_iff_lt-mul, arith}
+use Rattle.std.proofs.Common.{◌+◌, ◌/◌, ◌<◌, ◌≤◌, div-lt_iff_lt-mul, arith}
 use native.Mathlib.Nat.{min-eq_left}
 use Rattle.rules.specs.Device.{horizon}
-use Rattle.rules.specs.TickLaws.{lagging, lagging_less}
+use Rattle.rules.specs.TickLaws.{lagging_less}
 use Rattle.device.proofs.divider.catch_up.Goals as goal
 
 -- The inner device's share of at most 2^32 periods is at most 2^32 itself, so its own limit changes nothing.

@@ -1,7 +1,7 @@
-use Rattle.std.proofs.Common.{◌≡◌, ◌+◌, ◌-◌, ◌*◌, ◌<◌, ◌≤◌, Some, sym, ap, ◌∙◌, subst, arith}
+use Rattle.std.proofs.Common.{◌≡◌, ◌+◌, ◌-◌, ◌*◌, ap, ◌∙◌, subst, arith}
 use native.Mathlib.Nat.{min-eq_left}
-use Rattle.rules.specs.Device.{Announces, horizon}
-use Rattle.rules.specs.TickLaws.{lagging, lagging_less, due_by}
+use Rattle.rules.specs.Device.{Announces}
+use Rattle.rules.specs.TickLaws.{lagging_less, due_by}
 use Rattle.device.proofs.divider.Divider.arrive.Goals as goal
 use Rattle.device.proofs.divider.Divider.arrive.Goals.{in-Some, in-None}
 

@@ -1,9 +1,8 @@
-use Rattle.std.proofs.Common.{◌<◌, ◌∙◌, subst}
-use Rattle.rules.specs.TickLaws.{lagging_level, due_by}
+use Rattle.std.proofs.Common.{◌∙◌}
+use Rattle.rules.specs.TickLaws.{lagging_level}
 use Rattle.device.proofs.divider.DividerDevice.level.Goals as goal
 
 pub returns : goal.returns
 returns g c =
     let d = c.args.self.now in
-    let early = subst (λ due. d.since < due) d.planned d.early in
-    c.level.ensures ∙ lagging_level g.D.Device.meaning d.factor d.since d.plan.change (g.D.Device.state d.inner) d.bounded.0 early d.announced
+    c.level.ensures ∙ lagging_level g.D.Device.meaning d.factor d.since d.plan.change (g.D.Device.state d.inner) d.bounded.0 d.early d.announced

@@ -1,5 +1,4 @@
-use Rattle.std.proofs.Common.{◌≡◌, ◌+◌, ap, ◌∙◌}
-use Rattle.rules.specs.Device.{Divided, divided, ticks}
+use Rattle.rules.specs.Device.{divided}
 use Rattle.rules.specs.TickLaws.{ticks_add, in_step}
 use Rattle.device.proofs.divider.DividerDevice.skip.Goals as goal
 
@@ -11,4 +10,4 @@ returns-then-since-self g c =
 pub returns-else-since-self : goal.returns-else-since-self
 returns-else-since-self g c =
     let d = c.args.self.now in
-    c.arrive.ensures ∙ rw c.min.ensures (ticks_add (divided g.D.Device.meaning) d.since _ (in_step d.factor (g.D.Device.state d.inner)))
+    rw (c.arrive.ensures, c.min.ensures) (ticks_add (divided g.D.Device.meaning) d.since _ (in_step d.factor (g.D.Device.state d.inner)))

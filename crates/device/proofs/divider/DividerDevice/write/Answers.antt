@@ -1,4 +1,3 @@
-use Rattle.std.proofs.Common.{sym, ap, ◌∙◌}
 use Rattle.rules.specs.TickLaws.{lagging_within}
 use Rattle.device.proofs.divider.DividerDevice.write.Goals as goal
 
