@@ -1,22 +1,36 @@
 // A device that lets another one tick at a fraction of its own rate.
-ghost use Rattle.std.specs.Prelude.{◌≡◌, ◌+◌, ◌*◌, ◌/◌, ◌%◌, ◌<◌, ◌≤◌, Some};
-ghost use Rattle.rules.specs.Device.{Divided, divide, divided, horizon};
-ghost use Rattle.rules.specs.TickLaws.{divided_announcement, divided_lawful};
+ghost use Rattle.std.specs.Prelude.{◌≡◌, ◌+◌, ◌*◌, ◌/◌, ◌%◌, ◌<◌, ◌≤◌};
+ghost use Rattle.rules.specs.Device.{Divided, Announces, divide, divided, horizon};
+ghost use Rattle.rules.specs.TickLaws.{lagging, due_by, announces_prop, divided_lawful};
 
 use crate::device::{Device, HORIZON};
 
-// The phase counts the ticks since the inner device's last one. The tick that brings it to the factor makes the inner device
-// tick, and the phase starts again at 0. It has no `impl Model`: its value would be made of the inner device's state, and a model's
-// `Value` cannot name what belongs to a bound.
+// How long the inner device may be left as it is.
 #[derive(Drop)]
-pub struct Divider<D> {
-    factor: u64,
-    phase: u64,
-    inner: D,
-    ghost bounded: { (1 ≤ factor) × (factor ≤ 64) × (phase < factor) },
+struct Plan {
+    // What it announces as it is.
+    change: Option<u64>,
+    // At so many ticks it has to be given its share of them.
+    due: u64,
 }
 
-// How often the divisor goes into the dividend, and what is left: its clauses are what the proof of a skip has to know of a division.
+// The tick that ends a period of `factor` ticks makes the inner device tick. It is not made to at once: ticks are counted until they
+// are due, so that most skips are a sum. There is no `impl Model`: its value would be made of the inner device's state, and a model's
+// `Value` cannot name what belongs to a bound.
+#[derive(Drop)]
+pub struct Divider<D: Device> {
+    factor: u64,
+    // The ticks since the start of the period for which the inner device stands. Its level stays on them.
+    since: u64,
+    plan: Plan,
+    inner: D,
+    ghost bounded: { (1 ≤ factor) × (factor ≤ 64) },
+    ghost announced: { Announces D.Device.meaning (D.Device.state inner) plan.change } by { announces_prop D.Device.meaning (D.Device.state inner) plan.change },
+    ghost planned: { plan.due ≡ due_by factor plan.change },
+    ghost early: { since < due_by factor plan.change },
+}
+
+// How often the divisor goes into the dividend, and what is left: its clauses are what proofs have to know of a division.
 fn quotient_and_remainder(dividend: u64, divisor: u64) -> (u64, u64)
     requires { 1 ≤ divisor }
     ensures quotient { result.0 ≡ dividend / divisor }
@@ -24,7 +38,7 @@ fn quotient_and_remainder(dividend: u64, divisor: u64) -> (u64, u64)
     ensures whole { result.0 * divisor + result.1 ≡ dividend }
     ensures below { result.1 < divisor }
 {
-    // Most boards advance by few ticks at a time, and then there is nothing to divide.
+    // Mostly less than a period is left, and then there is nothing to divide.
     if dividend < divisor {
         (0, dividend)
     } else {
@@ -32,31 +46,72 @@ fn quotient_and_remainder(dividend: u64, divisor: u64) -> (u64, u64)
     }
 }
 
+impl Plan {
+    fn of<D: Device>(inner: &D, factor: u64) -> Self
+        requires { (1 ≤ factor) × (factor ≤ 64) }
+        ensures announced { Announces D.Device.meaning (D.Device.state inner.now) result.change }
+        ensures due { result.due ≡ due_by factor result.change }
+        ensures late { factor ≤ result.due }
+    {
+        let change = inner.announce();
+        let due = match change {
+            Some(ticks) => ticks * factor,
+            // Until here the next 2^32 ticks hold no more than 2^32 of the inner device's.
+            None => HORIZON * (factor - 1) + 1,
+        };
+        Plan { change, due }
+    }
+}
+
+// Gives the inner device its share of the ticks, and answers how many of them that leaves in the last period.
+fn catch_up<D: Device>(inner: &mut D, factor: u64, since: u64) -> u64
+    requires some { 1 ≤ factor }
+    requires near { since ≤ horizon * factor }
+    ensures within { result < factor }
+    ensures same { lagging D.Device.meaning factor result (D.Device.state inner.new) ≡ lagging D.Device.meaning factor since (D.Device.state inner.old) }
+{
+    let (ticks, phase) = quotient_and_remainder(since, factor);
+    if 0 < ticks {
+        inner.skip(ticks);
+    }
+    phase
+}
+
 impl<D: Device> Divider<D> {
     // Starts at phase 0. A factor outside 1 to 64 is taken as 1.
     pub fn new(factor: u64, inner: D) -> Self
-        ensures { record { factor = result.factor; phase = result.phase; inner = D.Device.state result.inner } ≡ divide factor (D.Device.state inner) }
+        ensures { lagging D.Device.meaning result.factor result.since (D.Device.state result.inner) ≡ divide factor (D.Device.state inner) }
     {
         let factor = if (1..=64).contains(&factor) {
             factor
         } else {
             1
         };
+        let plan = Plan::of(&inner, factor);
         Divider {
             factor,
-            phase: 0,
+            since: 0,
+            plan,
             inner,
         }
     }
 
-    // After how many ticks the inner device has ticked `inner_ticks` times, if not past the horizon. On the way there the number
-    // can be 64 times the horizon.
-    fn due(&self, inner_ticks: u64) -> Option<u64>
-        requires { (1 ≤ inner_ticks) × (inner_ticks ≤ horizon) }
-        ensures { result ≡ divided_announcement self.now.factor self.now.phase (Some inner_ticks) }
+    // Goes on to so many ticks, at which the inner device is due: it is given the ticks that it announced, if any, without a
+    // division, and then its share of the rest.
+    fn arrive(&mut self, since: u64)
+        requires due { self.old.plan.due ≤ since }
+        requires near { since < self.old.plan.due + horizon }
+        ensures { lagging D.Device.meaning self.new.factor self.new.since (D.Device.state self.new.inner) ≡ lagging D.Device.meaning self.old.factor since (D.Device.state self.old.inner) }
     {
-        let ticks = inner_ticks * self.factor - self.phase;
-        (ticks <= HORIZON).then_some(ticks)
+        let rest = match self.plan.change {
+            Some(ticks) => {
+                self.inner.skip(ticks);
+                since - self.plan.due
+            }
+            None => since,
+        };
+        self.since = catch_up(&mut self.inner, self.factor, rest);
+        self.plan = Plan::of(&self.inner, self.factor);
     }
 }
 
@@ -69,20 +124,21 @@ impl<D: Device> Device for Divider<D> {
 
     ghost meaning = { divided D.Device.meaning };
 
-    ghost state = { λ d. record { factor = d.factor; phase = d.phase; inner = D.Device.state d.inner } };
+    ghost state = { λ d. lagging D.Device.meaning d.factor d.since (D.Device.state d.inner) };
 
     fn skip(&mut self, n: u64) {
-        let n = n.min(HORIZON);
-        let (inner_ticks, phase) = quotient_and_remainder(self.phase + n, self.factor);
-        if 0 < inner_ticks {
-            self.inner.skip(inner_ticks);
+        let since = self.since + n.min(HORIZON);
+        if since < self.plan.due {
+            self.since = since;
+        } else {
+            self.arrive(since);
         }
-        self.phase = phase;
     }
 
     fn announce(&self) -> Option<u64> {
-        let inner_ticks = self.inner.announce()?;
-        self.due(inner_ticks)
+        self.plan.change?;
+        let left = self.plan.due - self.since;
+        (left <= HORIZON).then_some(left)
     }
 
     fn level(&self) -> bool {
@@ -90,11 +146,16 @@ impl<D: Device> Device for Divider<D> {
     }
 
     fn read(&mut self, offset: u16) -> u8 {
-        self.inner.read(offset)
+        self.since = catch_up(&mut self.inner, self.factor, self.since);
+        let byte = self.inner.read(offset);
+        self.plan = Plan::of(&self.inner, self.factor);
+        byte
     }
 
     fn write(&mut self, offset: u16, byte: u8) {
+        self.since = catch_up(&mut self.inner, self.factor, self.since);
         self.inner.write(offset, byte);
+        self.plan = Plan::of(&self.inner, self.factor);
     }
 
     ghost width_meant = { D.Device.width_meant };

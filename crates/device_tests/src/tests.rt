@@ -93,3 +93,73 @@ fn empty(rt: HostRuntime) {
     assert_eq!(rt; seen(&mut d), (false, None, 0xFF));
     assert_eq!(rt; <Divider<Empty> as Device>::WIDTH, 1);
 }
+
+// Level and announcement alone: these look at a divider without giving its inner device the ticks that it lacks.
+fn shown<D: Device>(d: &D) -> (bool, Option<u64>) {
+    (d.level(), d.announce())
+}
+
+#[test]
+fn factor_1(rt: HostRuntime) {
+    let mut d = Divider::new(1, SquareWave::new(2));
+    for n in 0..9 {
+        assert_eq!(rt; shown(&d), (n / 3 % 2 == 1, Some(3 - n % 3)));
+        d.skip(1);
+    }
+}
+
+#[test]
+fn short_skips(rt: HostRuntime) {
+    let mut d = Divider::new(12, SquareWave::new(9));
+    for (skipped, left) in [(50, 70), (50, 20), (0, 20), (19, 1)] {
+        d.skip(skipped);
+        assert_eq!(rt; shown(&d), (false, Some(left)));
+    }
+    d.skip(1);
+    assert_eq!(rt; shown(&d), (true, Some(120)));
+    // Past two changes at once.
+    d.skip(300);
+    assert_eq!(rt; shown(&d), (true, Some(60)));
+    d.skip(60);
+    assert_eq!(rt; shown(&d), (false, Some(120)));
+}
+
+#[test]
+fn accesses_between(rt: HostRuntime) {
+    let mut d = Divider::new(12, SquareWave::new(9));
+    d.skip(50);
+    assert_eq!(rt; d.read(0), 9);
+    assert_eq!(rt; shown(&d), (false, Some(70)));
+    d.skip(50);
+    // Its new half is two inner ticks, of which the phase of 4 is spent already.
+    d.write(0, 1);
+    assert_eq!(rt; shown(&d), (false, Some(20)));
+    d.skip(20);
+    assert_eq!(rt; shown(&d), (true, Some(24)));
+}
+
+#[test]
+fn no_change(rt: HostRuntime) {
+    for factor in [1, 2, 64] {
+        let mut d = Divider::new(factor, Empty);
+        for _ in 0..200 {
+            d.skip(u64::MAX);
+            assert_eq!(rt; shown(&d), (false, None));
+        }
+    }
+}
+
+// Five dividers of 64 over a half of 256 turn every 2^38 ticks, of which only the last 2^32 are in sight.
+#[test]
+fn longest_skips(rt: HostRuntime) {
+    let three = Divider::new(64, Divider::new(64, Divider::new(64, SquareWave::new(255))));
+    let mut d = Divider::new(64, Divider::new(64, three));
+    for high in [false, true, false] {
+        for _ in 0..63 {
+            assert_eq!(rt; shown(&d), (high, None));
+            d.skip(1 << 32);
+        }
+        assert_eq!(rt; shown(&d), (high, Some(1 << 32)));
+        d.skip(1 << 32);
+    }
+}

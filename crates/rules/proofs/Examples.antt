@@ -34,10 +34,12 @@ high_from_4 (suc (suc (suc (suc n)))) h = stays_high n 0
 
 module _ {S : Type 0} (m : Meaning S) (s : S) where
   from_0 : Announces m s (Some 1) → Announces (divided m) (by_twelve 0 s) (Some 12)
-  from_0 a = announces_divided m (by_twelve 0 s) (Some 1) (omega arith) a
+  unfolding ticks
+  from_0 a = announces_divided m 12 0 (Some 1) s (omega arith) (omega arith) a
 
   from_11 : Announces m s (Some 1) → Announces (divided m) (by_twelve 11 s) (Some 1)
-  from_11 a = announces_divided m (by_twelve 11 s) (Some 1) (omega arith) a
+  unfolding ticks
+  from_11 a = announces_divided m 12 11 (Some 1) s (omega arith) (omega arith) a
 
 pub worked_examples : (S : Type 0) → WorkedExamples S
 unfolding ticks insert first_from drive_below inputs_below high on_line edges_between carry_out tick tick_times digits big_endian_from all_printable decode next run_from run on_board printed

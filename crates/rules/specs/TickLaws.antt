@@ -1,9 +1,10 @@
 -- Laws of ticks, for every meaning: how runs of ticks join, what a divider makes of them, and what announcements say.
 use Rattle.std.specs.Prelude.{◌≡◌, ℕ, zero, suc, ◌+◌, ◌-◌, ◌*◌, ◌/◌, ◌%◌, ◌<◌, ◌≤◌, cond, Some, None, Option, nat_le, refl}
-use Rattle.std.proofs.Common.{sym, ap, ◌∙◌, ⊎_elim, zero-add, add-zero, suc-add, mod-eq_of_lt, div-lt_iff_lt-mul, mul-div_cancel, add-mul, mul-le-mul_left, mul-le-mul_right, add-one, arith}
-use Rattle.std.proofs.Math.Nat.{add-mod_left, add-div_left, div-eq_of_lt}
+use Rattle.std.proofs.Common.{sym, ap, ◌∙◌, ⊎_elim, zero-add, add-zero, suc-add, mod-eq_of_lt, div-lt_iff_lt-mul, mul-div_cancel, add-one, arith}
+use Rattle.std.proofs.Math.Nat.{add-mod_left, add-div_left, div-eq_of_lt, mul-mod_left}
 use Rattle.std.proofs.lemmas.Bool.Decides.{nat_tests}
 use Rattle.std.proofs.lemmas.Bool.{cases_lt, leb-true, leb-false, cond_both}
+use Rattle.std.proofs.Props.{props}
 use Rattle.rules.specs.Device.{Meaning, Lawful, ticks, level_after, Steady, horizon, Announces, empty_device, Divided, divider_tick, divided}
 
 -- No ticks, and one tick more at either end of a run.
@@ -80,55 +81,69 @@ ticks_divided m zero s h = rw (add-zero, mod-eq_of_lt h, div-eq_of_lt h)
 ticks_divided m (suc n) s h =
     ticks_divided m n (divider_tick m s) (tick_keeps_phase m s h) ∙ ⊎_elim (after_within m n s) (after_over m n s h) (cases_lt (s.phase + 1) s.factor)
 
--- The level of a divider after j ticks is the inner one's after its share of them.
-pub level_divided : {S : Type 0} (m : Meaning S) (j : ℕ) (s : Divided S) → s.phase < s.factor → level_after (divided m) j s ≡ level_after m ((s.phase + j) / s.factor) s.inner
-level_divided m j s h = ap (λ t. m.level t.inner) (ticks_divided m j s h)
+-- A divider at the start of a period.
+abbrev pub in_step : {S : Type 0} → ℕ → S → Divided S
+in_step factor s = record { factor = factor; phase = 0; inner = s }
 
--- The inner device never ticks more often than the divider.
-pub inner_ticks_le : (phase factor j : ℕ) → phase < factor → (phase + j) / factor ≤ j
-inner_ticks_le phase factor j h =
+-- A divider whose inner device may lag behind: its state s is that of the start of a period, `since` ticks ago.
+abbrev pub lagging : {S : Type 0} → Meaning S → ℕ → ℕ → S → Divided S
+lagging m factor since s = ticks (divided m) since (in_step factor s)
+
+-- In the first period it lacks nothing.
+pub lagging_within : {S : Type 0} (m : Meaning S) (factor since : ℕ) (s : S) → since < factor → lagging m factor since s ≡ record { factor = factor; phase = since; inner = s }
+lagging_within m factor since s h =
     let some : 0 < factor = omega arith in
-    let product : j * 1 ≤ j * factor = mul-le-mul_left j some in
-    let within : phase + j < (j + 1) * factor = rw add-mul (omega arith) in
-    let below : (phase + j) / factor < j + 1 = (div-lt_iff_lt-mul some).1 within in
-    omega arith
+    rw (ticks_divided m since (in_step factor s) some, zero-add, mod-eq_of_lt h, div-eq_of_lt h, ticks_zero)
 
--- The inner device's k-th tick is the divider's (k * factor - phase)-th.
-pub inner_before : (phase factor k j : ℕ) → phase < factor → j < k * factor - phase → (phase + j) / factor < k
-inner_before phase factor k j h before =
-    let some : 0 < factor = omega arith in
-    let within : phase + j < k * factor = omega arith in
-    (div-lt_iff_lt-mul some).1 within
+-- After k periods it may be given k of its ticks.
+pub lagging_less : {S : Type 0} (m : Meaning S) (factor k rest : ℕ) (s : S) → 1 ≤ factor → lagging m factor (k * factor + rest) s ≡ lagging m factor rest (ticks m k s)
+lagging_less m factor k rest s some =
+    rw (ticks_add (divided m) (k * factor) rest (in_step factor s), ticks_divided m (k * factor) (in_step factor s) some, zero-add, mul-mod_left, mul-div_cancel k some)
 
-pub inner_at : (phase factor k : ℕ) → phase < factor → 1 ≤ k → (phase + (k * factor - phase)) / factor ≡ k
-inner_at phase factor k h first =
-    let some : 0 < factor = omega arith in
-    let one_period : 1 * factor ≤ k * factor = mul-le-mul_right factor first in
-    let sum : phase + (k * factor - phase) ≡ k * factor = omega arith in
-    rw sum (mul-div_cancel k some)
+-- The divider's level after j more ticks is the inner device's after its share of all the ticks.
+pub level_lagging : {S : Type 0} (m : Meaning S) (factor since j : ℕ) (s : S) → 1 ≤ factor → level_after (divided m) j (lagging m factor since s) ≡ level_after m ((since + j) / factor) s
+level_lagging m factor since j s some =
+    rw (← ticks_add (divided m) since j (in_step factor s), ticks_divided m (since + j) (in_step factor s) some, zero-add)
 
-level_before : {S : Type 0} (m : Meaning S) (s : Divided S) (k : ℕ) → s.phase < s.factor → Announces m s.inner (Some k) → (j : ℕ) → j < k * s.factor - s.phase → level_after (divided m) j s ≡ m.level s.inner
-level_before m s k h a j early = level_divided m j s h ∙ a.2 _ (inner_before s.phase s.factor k j h early)
+-- At so many ticks the inner device has to be given its share, by what it announced in s: there its level changes, or the 2^32 ticks
+-- ahead of the divider go past those that it told of.
+abbrev pub due_by : ℕ → Option ℕ → ℕ
+due_by factor (Some k) = k * factor
+due_by factor None = horizon * (factor - 1) + 1
 
-level_at : {S : Type 0} (m : Meaning S) (s : Divided S) (k : ℕ) → s.phase < s.factor → 1 ≤ k → level_after (divided m) (k * s.factor - s.phase) s ≡ level_after m k s.inner
-level_at m s k h first = level_divided m (k * s.factor - s.phase) s h ∙ ap (λ q. level_after m q s.inner) (inner_at s.phase s.factor k h first)
-
--- What a divider announces, from what its inner device announces: the same change, unless it is past 2^32.
+-- What the divider announces, until then: the same change, unless it is past 2^32.
 abbrev pub divided_announcement : ℕ → ℕ → Option ℕ → Option ℕ
-divided_announcement factor phase (Some k) = cond (nat_le (k * factor - phase) horizon) (Some (k * factor - phase)) None
-divided_announcement factor phase None = None
+divided_announcement factor since (Some k) = cond (nat_le (k * factor - since) horizon) (Some (k * factor - since)) None
+divided_announcement factor since None = None
 
-pub announces_divided : {S : Type 0} (m : Meaning S) (s : Divided S) (r : Option ℕ) → s.phase < s.factor → Announces m s.inner r → Announces (divided m) s (divided_announcement s.factor s.phase r)
-announces_divided m s (Some k) h a =
-    let t : ℕ = k * s.factor - s.phase in
-    let one_period : 1 * s.factor ≤ k * s.factor = mul-le-mul_right s.factor a.0 in
-    cond_both (nat_le t horizon) (Some t) None (Announces (divided m) s)
-    (λ near. (omega arith, leb-true t horizon near, level_before m s k h a, λ same. a.3 (sym (level_at m s k h a.0) ∙ same)))
-    (λ far j near. level_before m s k h a j (omega (arith, leb-false t horizon far)))
-announces_divided m s None h a = λ j near.
-    let share : (s.phase + j) / s.factor ≤ j = inner_ticks_le s.phase s.factor j h in
-    let few : (s.phase + j) / s.factor ≤ horizon = omega arith in
-    level_divided m j s h ∙ a _ few
+level_before : {S : Type 0} (m : Meaning S) (factor since k j : ℕ) (s : S) → 1 ≤ factor → since + j < k * factor → ((i : ℕ) → i < k → level_after m i s ≡ m.level s) → level_after (divided m) j (lagging m factor since s) ≡ m.level s
+level_before m factor since k j s some early quiet = level_lagging m factor since j s some ∙ quiet _ ((div-lt_iff_lt-mul some).1 early)
+
+level_unchanged : {S : Type 0} (m : Meaning S) (factor since j : ℕ) (s : S) → 1 ≤ factor → since < due_by factor None → j ≤ horizon → Announces m s None → level_after (divided m) j (lagging m factor since s) ≡ m.level s
+level_unchanged m factor since j s some early near a = level_before m factor since (horizon + 1) j s some (omega arith) (λ i within. a i (omega arith))
+
+-- Until then the level is that of s.
+pub lagging_level : {S : Type 0} (m : Meaning S) (factor since : ℕ) (r : Option ℕ) (s : S) → 1 ≤ factor → since < due_by factor r → Announces m s r → m.level s ≡ m.level (lagging m factor since s).inner
+lagging_level m factor since (Some k) s some early a = sym (level_before m factor since k 0 s some (omega arith) a.2) ∙ ap (divided m).level (ticks_zero (divided m) (lagging m factor since s))
+lagging_level m factor since None s some early a = sym (level_unchanged m factor since 0 s some early (omega arith) a) ∙ ap (divided m).level (ticks_zero (divided m) (lagging m factor since s))
+
+pub announces_divided : {S : Type 0} (m : Meaning S) (factor since : ℕ) (r : Option ℕ) (s : S) → 1 ≤ factor → since < due_by factor r → Announces m s r → Announces (divided m) (lagging m factor since s) (divided_announcement factor since r)
+announces_divided m factor since (Some k) s some early a =
+    let left : ℕ = k * factor - since in
+    let sum : since + left ≡ k * factor = omega arith in
+    let share : (since + left) / factor ≡ k = rw sum (mul-div_cancel k some) in
+    let present = lagging_level m factor since (Some k) s some early a in
+    let stays : (j : ℕ) → j < left → level_after (divided m) j (lagging m factor since s) ≡ m.level (lagging m factor since s).inner = λ j before. level_before m factor since k j s some (omega arith) a.2 ∙ present in
+    let changed : level_after (divided m) left (lagging m factor since s) ≡ level_after m k s = level_lagging m factor since left s some ∙ ap (λ q. level_after m q s) share in
+    cond_both (nat_le left horizon) (Some left) None (Announces (divided m) (lagging m factor since s))
+    (λ near. (omega arith, leb-true left horizon near, stays, λ same. a.3 (sym changed ∙ same ∙ sym present)))
+    (λ far j near. stays j (omega (arith, leb-false left horizon far)))
+announces_divided m factor since None s some early a = λ j near. level_unchanged m factor since j s some early near a ∙ lagging_level m factor since None s some early a
+
+-- An announcement has one proof at most.
+pub announces_prop : {S : Type 0} (m : Meaning S) (s : S) (r : Option ℕ) → IsProp (Announces m s r)
+announces_prop m s (Some k) = hlevel props
+announces_prop m s None = hlevel props
 
 -- What may be taken from an announcement: the level stays up to the tick before it, whether or not it then changes.
 abbrev pub Quiet : {S : Type 0} → Meaning S → S → Option ℕ → Type 0
