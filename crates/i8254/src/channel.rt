@@ -1,5 +1,5 @@
 // A channel: a counting element behind the bytes that a program writes and reads.
-ghost use Rattle.std.specs.Prelude.{◌≡◌};
+ghost use Rattle.std.specs.Prelude.{◌≡◌, Some};
 ghost use Rattle.rules.specs.Device.{ticks};
 ghost use Rattle.rules.specs.I8254.{after_read_count, byte_of_count, latch_count, power_on_channel, program, shown, write_count};
 ghost use Rattle.i8254_laws.specs.Foresight.{Foresees};
@@ -147,6 +147,15 @@ impl Channel {
         } else {
             self.counter.announce()
         }
+    }
+
+    // OUT changes after n ticks, which pass. Answers when it changes again. A channel that is held announces no change.
+    pub fn turn(&mut self, n: u64) -> Option<u64>
+        requires due { Foresees channel (view_channel self.old) (Some n) }
+        ensures turned { view_channel self.new ≡ ticks channel n (view_channel self.old) }
+        ensures next { Foresees channel (view_channel self.new) result }
+    {
+        self.counter.turn(n)
     }
 
     // The level of OUT.

@@ -1,7 +1,8 @@
 // The three channels at their four ports.
-ghost use Rattle.std.specs.Prelude.{◌≡◌, ◌/◌};
+ghost use Rattle.std.specs.Prelude.{◌≡◌, ◌/◌, Some};
 ghost use Rattle.rules.specs.Device.{ticks};
 ghost use Rattle.rules.specs.I8254.{after_read_timer, at_channel, control, power_on_timer, read_timer, timer, write_timer};
+ghost use Rattle.i8254_laws.specs.Foresight.{Foresees};
 ghost use Rattle.i8254.specs.Channels.{others_after, view_channels};
 ghost use Rattle.i8254.specs.Forecasts.{Foretold};
 
@@ -66,6 +67,17 @@ impl Channels {
     {
         self.channel_0.skip(n);
         self.fall_behind(n);
+    }
+
+    // Channel 0's OUT changes after n ticks, which pass. Answers when it changes again.
+    pub fn turn(&mut self, n: u64) -> Option<u64>
+        requires due { Foresees timer (view_channels self.old) (Some n) }
+        ensures turned { view_channels self.new ≡ ticks timer n (view_channels self.old) }
+        ensures next { Foresees timer (view_channels self.new) result }
+    {
+        let next = self.channel_0.turn(n);
+        self.fall_behind(n);
+        next
     }
 
     // What is foreseen of channel 0's OUT.

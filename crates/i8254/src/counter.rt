@@ -1,5 +1,5 @@
 // The counting element of a channel, with its count register and its OUT pin.
-ghost use Rattle.std.specs.Prelude.{◌≡◌, false, not, None};
+ghost use Rattle.std.specs.Prelude.{◌≡◌, false, not, Some, None};
 ghost use Rattle.rules.specs.Device.{ticks};
 ghost use Rattle.rules.specs.I8254.{complete, first_byte, is_mode_0};
 ghost use Rattle.i8254_laws.specs.Foresight.{Foresees};
@@ -116,6 +116,28 @@ impl Counter {
             Counter::Starting(counter) => counter.announce(),
             Counter::Rate(counter) => Some(counter.announce()),
             Counter::Square(counter) => Some(counter.announce()),
+        }
+    }
+
+    // OUT changes after n ticks, which pass. Answers when it changes again.
+    pub fn turn(&mut self, n: u64) -> Option<u64>
+        requires due { Foresees counting (view_counter self.old) (Some n) }
+        ensures turned { view_counter self.new ≡ ticks counting n (view_counter self.old) }
+        ensures next { Foresees counting (view_counter self.new) result }
+    {
+        match self {
+            Counter::Rate(counter) => {
+                *counter = counter.turned();
+                Some(counter.announce())
+            }
+            Counter::Square(counter) => {
+                *counter = counter.turned();
+                Some(counter.announce())
+            }
+            _ => {
+                self.pass(n);
+                self.announce()
+            }
         }
     }
 }

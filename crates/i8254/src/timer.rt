@@ -1,10 +1,11 @@
 // The timer: three channels that lag behind its ticks.
-ghost use Rattle.std.specs.Prelude.{◌≡◌, ◌<◌, refl};
+ghost use Rattle.std.specs.Prelude.{◌≡◌, ◌≢◌, ◌<◌, refl};
 ghost use Rattle.rules.specs.Device.{ticks};
 ghost use Rattle.rules.specs.I8254 as rules;
 ghost use Rattle.rules.specs.I8254.{power_on_timer, timer};
 ghost use Rattle.i8254.specs.Channels.{view_channels};
 ghost use Rattle.i8254.specs.Forecasts.{Foretold};
+ghost use Rattle.i8254.specs.declared.forecast.TheConstants.{NEVER};
 ghost use Rattle.i8254.specs.Ports.{timer_lawful};
 
 use crate::channels::Channels;
@@ -40,6 +41,19 @@ impl Timer {
         }
     }
 
+    // The ticks pass after which OUT changes.
+    fn turn(&mut self)
+        requires change { self.old.forecast.due ≢ NEVER }
+        ensures { view self.new ≡ ticks timer self.old.forecast.due (view_channels self.old.channels) }
+    {
+        let next = self.channels.turn(self.forecast.due);
+        self.forecast = Forecast {
+            out: !self.forecast.out,
+            due: next.unwrap_or(NEVER),
+        };
+        self.lag = 0;
+    }
+
     // The channels have n ticks, those that they lack among them.
     fn catch_up(&mut self, n: u64)
         ensures { view self.new ≡ ticks timer n (view_channels self.old.channels) }
@@ -67,6 +81,8 @@ impl Device for Timer {
         let lag = self.lag + n.min(HORIZON);
         if lag < self.forecast.due {
             self.lag = lag;
+        } else if lag == self.forecast.due && lag < NEVER {
+            self.turn();
         } else {
             self.catch_up(lag);
         }

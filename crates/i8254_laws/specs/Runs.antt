@@ -4,9 +4,9 @@ use Rattle.std.proofs.Common.{sym, ◌∙◌, div-add-mod', arith}
 use Rattle.std.proofs.Math.Path.{ap}
 use Rattle.std.proofs.Math.Nat.{zero-mul, suc-mul}
 use Rattle.std.proofs.Common.{inl, inr}
-use Rattle.std.proofs.lemmas.Bool.{false≢true, cases_lt}
+use Rattle.std.proofs.lemmas.Bool.{false≢true, cases_lt, cases_Bool}
 use Rattle.rules.specs.Device.{Meaning, ticks, level_after, Announces, horizon}
-use Rattle.rules.specs.TickLaws.{ticks_add, ticks_first, ticks_still}
+use Rattle.rules.specs.TickLaws.{ticks_add, ticks_first, ticks_still, ticks_keep}
 use Rattle.rules.specs.I8254.{Timer, Channel, Counter, Mode, mode_0, mode_1, mode_2, mode_3, mode_4, mode_5, is_mode_0, timer, tick_counter, with_counter}
 use Rattle.i8254_laws.specs.Machines.{counting, channel, Turns}
 use Rattle.i8254_laws.specs.Foresight.{Foresees, foresees_alike}
@@ -121,6 +121,33 @@ held_foresees ch h j = ap channel.level (held_run j ch h)
 pub free_foresees : (ch : Channel) (r : Option ℕ) → held ch ≡ false → Foresees counting ch.counter r → Foresees channel ch r
 free_foresees ch r h f = foresees_alike channel ch counting ch.counter (λ j. ap channel.level (free_run j ch h)) r f
 
--- What is foreseen of channel 0 is foreseen of the timer.
+-- A channel whose OUT changes is not held, and stays so.
+pub changes_free : (ch : Channel) (n : ℕ) → Foresees channel ch (Some n) → held ch ≡ false
+changes_free ch n f = elim (cases_Bool (held ch)) [
+  | inl h ↦ absurd (f.3 (held_foresees ch h n))
+  | inr free ↦ free
+]
+
+stays_free : (n : ℕ) (ch : Channel) → held ch ≡ false → held (ticks channel n ch) ≡ false
+stays_free = ticks_keep channel (λ ch. held ch ≡ false) (λ ch h. ap held (free_tick ch h) ∙ still_free ch h)
+
+-- The counter of such a channel turns, and the channel with it.
+module _ (ch : Channel) (n : ℕ) (f : Foresees channel ch (Some n)) where
+  free : held ch ≡ false
+  free = changes_free ch n f
+
+  pub counter_foresees : Foresees counting ch.counter (Some n)
+  counter_foresees = foresees_alike counting ch.counter channel ch (λ j. sym (ap channel.level (free_run j ch free))) (Some n) f
+
+  pub channel_turned : (c : Counter) → c ≡ ticks counting n ch.counter → with_counter ch c ≡ ticks channel n ch
+  channel_turned c is = ap (with_counter ch) is ∙ sym (free_run n ch free)
+
+  pub channel_next : (c : Counter) (r : Option ℕ) → c ≡ ticks counting n ch.counter → Foresees counting c r → Foresees channel (with_counter ch c) r
+  channel_next c r is next = free_foresees (with_counter ch c) r (ap held (channel_turned c is) ∙ stays_free n ch free) next
+
+-- What is foreseen of the timer is foreseen of channel 0, and the other way round.
+pub channel_0_foresees : (t : Timer) (r : Option ℕ) → Foresees timer t r → Foresees channel t.channel_0 r
+channel_0_foresees t r f = foresees_alike channel t.channel_0 timer t (λ j. sym (ap timer.level (ticks_timer j t))) r f
+
 pub timer_foresees : (t : Timer) (r : Option ℕ) → Foresees channel t.channel_0 r → Foresees timer t r
 timer_foresees t r f = foresees_alike timer t channel t.channel_0 (λ j. ap timer.level (ticks_timer j t)) r f
