@@ -1,10 +1,10 @@
 -- The parts of an advance join.
-use Rattle.std.proofs.Common.{◌≡◌, ℕ, ◌+◌, ◌-◌, ◌≤◌, length, sym, ap, ap₂, ◌∙◌, add-zero, arith}
-use Rattle.agenda.specs.Waiting.{Kept}
+use Rattle.std.proofs.Common.{◌≡◌, ℕ, ◌+◌, ◌-◌, ◌≤◌, length, sym, ap, ap₂, ◌∙◌, subst, add-zero, arith}
+use Rattle.agenda.specs.Waiting.{waiting, Kept}
 use Rattle.rules.specs.I8259.{drive_lines}
 use Rattle.rules.specs.Board as rules
-use Rattle.rules.specs.Board.{Fitting, Counted, levels, hand, carry_out, tick_times, on_line, lines}
-use Rattle.board_laws.specs.Jump.{Settled, Quiet, Idle, NoneDue, later, counted, jump, jump_first, arrival_none, tick_times_time, tick_none, handing_settled, settled_later}
+use Rattle.rules.specs.Board.{Fitting, Counted, levels, hand, carry_out, tick_times, on_line, lines, precedes}
+use Rattle.board_laws.specs.Jump.{Settled, Quiet, Idle, NoneDue, later, counted, jump, jump_first, carry_none, arrival_none, tick_times_time, tick_none, handing_settled, settled_later}
 use Rattle.slots.specs.Slots.{States}
 use Rattle.slots.specs.declared.fitted.Slots.{Ghosts}
 use Rattle.board.specs.Steps.{Progress, Jumps, Arrives, Runs, ticking}
@@ -35,6 +35,18 @@ module _ {F S0 S1 S2 S3 : Type 0} {slots : Ghosts F} (states : F → States S0 S
     few = arrived.few;
     nodes = arrived.nodes;
   }
+
+  -- Where no write is due at the end of a jump, nothing is left to do there.
+  pub jump_arrives : (k : ℕ) (a b : Board F slots) (edges : ℕ) → NoneDue (a.time + k) (view states a).pending → b.time ≡ a.time + k → b.queue ≡ a.queue
+      → Jumps states f k edges a b → Arrives states f k edges a b
+  jump_arrives k a b edges none time queue jumped = record {
+    same = λ e. jumped.same e ∙ carry_none f (view states b).pending (view states b) (e + edges) none_now;
+    few = jumped.few;
+    nodes = jumped.nodes;
+  }
+    where
+      none_now : NoneDue b.time (waiting precedes b.queue)
+      none_now = subst (λ q. NoneDue b.time (waiting precedes q)) (sym queue) (subst (λ t. NoneDue t (waiting precedes a.queue)) (sym time) none)
 
   -- Where no write is due at the end of a jump, it has one handing alone.
   pub handed_alone : (k : ℕ) (a b : Board F slots) (edges : ℕ) → NoneDue (a.time + k) (view states a).pending → Arrives states f k edges a b → view states b ≡ hand f (later f k (view states a))

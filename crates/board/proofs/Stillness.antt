@@ -11,7 +11,7 @@ use Rattle.rules.specs.TickLaws.{ticks_add}
 use Rattle.slots.specs.Slots.{States, slot_number, levels_of, ticked, Still, AllStill, Foretold}
 use Rattle.slots.specs.declared.fitted.Slot.{Slot}
 use Rattle.agenda.proofs.Bag.{length_insert}
-use Rattle.board.specs.Deadlines.{comes_before, NoneBefore, at_tick, with_announced, Watched}
+use Rattle.board.specs.Deadlines.{comes_before, first_tick, NoneBefore, at_tick, with_announced, Watched}
 use Rattle.board.specs.declared.board.deadlines.Deadline.{Deadline}
 
 -- Four levels that are the same one by one are the same.
@@ -49,9 +49,9 @@ none_before_first t [] d leads is early n = tt
 none_before_first t (x ∷ ds) d leads is early n = let same : d ≡ x = cc in let at : t ≤ x.tick = subst (λ y. t ≤ y.tick) same early in ((λ _. at), none_precedes t x ds leads at n)
 
 -- The first is not before what none is before.
-pub first_ahead : (t : ℕ) (ds : List Deadline) (d : Deadline) → ((n : ℕ) → NoneBefore n t ds) → Some d ≡ first_of ds → t ≤ d.tick
-first_ahead t [] d none is = cc
-first_ahead t (x ∷ ds) d none is = let same : x ≡ d = cc in subst (λ y. t ≤ y.tick) same ((none (slot_number x.slot)).0 refl)
+pub first_after : (t known : ℕ) (ds : List Deadline) → t ≤ known → ((n : ℕ) → NoneBefore n t ds) → t ≤ first_tick known ds
+first_after t known [] within none = within
+first_after t known (d ∷ ds) within none = let at : t ≤ d.tick = (none (slot_number d.slot)).0 refl in omega arith
 
 -- How many deadlines have come.
 abbrev pub come : ℕ → List Deadline → ℕ

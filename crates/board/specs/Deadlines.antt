@@ -40,10 +40,10 @@ abbrev pub TakesDue : ℕ → Option Deadline → List Deadline → List Deadlin
 TakesDue now None old new = (new ≡ old) × ((n : ℕ) → NoneBefore n (now + 1) new)
 TakesDue now (Some d) old new = (d.tick ≤ now) × (old ≡ d ∷ new)
 
--- How far it is to the first deadline, at most `ahead` ticks.
-abbrev pub to_first : ℕ → ℕ → List Deadline → ℕ
-to_first now ahead [] = ahead
-to_first now ahead (d ∷ ds) = min ahead (d.tick - now)
+-- The tick of the first deadline, at most `known`.
+abbrev pub first_tick : ℕ → List Deadline → ℕ
+first_tick known [] = known
+first_tick known (d ∷ ds) = min known d.tick
 
 abbrev pub at_tick : ℕ → Slot → Deadline
 at_tick tick slot = record { tick = tick; slot = slot }

@@ -54,7 +54,9 @@ impl<'a, F: Slots> Board<'a, F> {
     fn jump(&mut self, k: u64) -> u64
         requires near { k ≤ horizon }
         requires time { self.old.time + k < 2 ^ 62 }
-        ensures { Jumps F.states F.fitting k result self.old self.new }
+        ensures jumps { Jumps F.states F.fitting k result self.old self.new }
+        ensures time { self.new.time ≡ self.old.time + k }
+        ensures queue { self.new.queue ≡ self.old.queue }
     {
         if self.time + k < self.quiet_until {
             self.jump_quietly(k);
@@ -108,24 +110,23 @@ impl<'a, F: Slots> Board<'a, F> {
         requires idle { Idle F.fitting (ticks - 1) (view F.states self.old) }
         ensures { Runs F.states F.fitting ticks result self.old self.new }
     {
-        if self.time + ticks <= self.quiet_until {
+        let end = self.time + ticks;
+        if end <= self.quiet_until {
             return self.arrive(ticks);
         }
         // What is announced now holds before this tick.
-        let end = self.time + HORIZON + 1;
+        let known = self.time + HORIZON + 1;
         let mut nodes = [Deadline::UNUSED; 4];
         let mut deadlines = self.deadlines(&mut nodes);
-        let mut left = ticks;
         let mut edges = 0;
-        while left > 0 {
-            deadlines.renew(&self.ports.slots, self.time);
-            let quiet = deadlines.until_first(self.time, end - self.time);
-            self.quiet_until = self.time + quiet;
-            let stride = left.min(quiet);
-            edges += self.arrive(stride);
-            left -= stride;
+        loop {
+            let change = deadlines.next(&self.ports.slots, self.time, known);
+            self.quiet_until = change;
+            if end <= change {
+                return edges + self.arrive(end - self.time);
+            }
+            edges += self.jump(change - self.time);
         }
-        edges
     }
 
     // Lets the ticks pass, from write to write, and answers their edges. No range counts the stretches, since each depends on what the

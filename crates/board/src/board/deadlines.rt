@@ -4,7 +4,7 @@ ghost use Rattle.agenda.specs.Nodes.{usable};
 ghost use Rattle.agenda.specs.Waiting.{waiting};
 ghost use Rattle.rules.specs.Device.{horizon};
 ghost use Rattle.slots.specs.Slots.{slot_number, Foretold};
-ghost use Rattle.board.specs.Deadlines.{comes_before, in_order, NoneBefore, to_first, with_announced, TakesDue, Watched};
+ghost use Rattle.board.specs.Deadlines.{comes_before, first_tick, in_order, NoneBefore, with_announced, TakesDue, Watched};
 
 use agenda::{Agenda, Entry};
 use slots::{Slot, Slots};
@@ -57,7 +57,7 @@ impl<'n> Deadlines<'n> {
     }
 
     // Has each slot whose deadline has come announce again.
-    pub(super) fn renew<F: Slots>(&mut self, slots: &F, now: u64)
+    fn renew<F: Slots>(&mut self, slots: &F, now: u64)
         requires time { now < 2 ^ 62 }
         ensures ahead { (n : ℕ) → NoneBefore n (now + 1) (waiting comes_before self.new.agenda) }
         ensures watched { (n ahead : ℕ) → ahead ≤ horizon + 1 → Watched F.fitting n ahead now (waiting comes_before self.old.agenda) (F.states slots.now) → Watched F.fitting n ahead now (waiting comes_before self.new.agenda) (F.states slots.now) }
@@ -91,18 +91,29 @@ impl<'n> Deadlines<'n> {
         }
     }
 
-    // How far it is to the first deadline: at most `ahead` ticks.
-    pub(super) fn until_first(&self, now: u64, ahead: u64) -> u64
-        requires some { 1 ≤ ahead }
-        requires ahead { (n : ℕ) → NoneBefore n (now + 1) (waiting comes_before self.now.agenda) }
-        ensures some { 1 ≤ result }
-        ensures most { result ≤ ahead }
-        ensures none { (n : ℕ) → NoneBefore n (now + result) (waiting comes_before self.now.agenda) }
-        ensures nearest { result ≡ to_first now ahead (waiting comes_before self.now.agenda) }
+    // The tick of the first deadline, if it comes before `known`, which else is the answer.
+    fn first_tick(&self, known: u64) -> u64
+        ensures most { result ≤ known }
+        ensures none { (n : ℕ) → NoneBefore n result (waiting comes_before self.now.agenda) }
+        ensures nearest { result ≡ first_tick known (waiting comes_before self.now.agenda) }
     {
         match self.agenda.first() {
-            Some(deadline) => ahead.min(deadline.tick - now),
-            None => ahead,
+            Some(deadline) => known.min(deadline.tick),
+            None => known,
         }
+    }
+
+    // Before which tick no slot changes its level: that of the first deadline, and at most `known`. Each slot whose deadline has come
+    // announces again.
+    pub(super) fn next<F: Slots>(&mut self, slots: &F, now: u64, known: u64) -> u64
+        requires time { now < 2 ^ 62 }
+        requires some { now < known }
+        ensures ahead { now < result }
+        ensures most { result ≤ known }
+        ensures none { (n : ℕ) → NoneBefore n result (waiting comes_before self.new.agenda) }
+        ensures watched { (n ahead : ℕ) → ahead ≤ horizon + 1 → Watched F.fitting n ahead now (waiting comes_before self.old.agenda) (F.states slots.now) → Watched F.fitting n ahead now (waiting comes_before self.new.agenda) (F.states slots.now) }
+    {
+        self.renew(slots, now);
+        self.first_tick(known)
     }
 }
