@@ -54,6 +54,18 @@ impl Timer {
         self.lag = 0;
     }
 
+    // Goes on to n ticks after the forecast, at which OUT changes or past which it may. In a function of its own it leaves a skip small.
+    #[inline(never)]
+    fn arrive(&mut self, n: u64)
+        ensures { view self.new ≡ ticks timer n (view_channels self.old.channels) }
+    {
+        if n == self.forecast.due && n < NEVER {
+            self.turn();
+        } else {
+            self.catch_up(n);
+        }
+    }
+
     // The channels have n ticks, those that they lack among them.
     fn catch_up(&mut self, n: u64)
         ensures { view self.new ≡ ticks timer n (view_channels self.old.channels) }
@@ -81,10 +93,8 @@ impl Device for Timer {
         let lag = self.lag + n.min(HORIZON);
         if lag < self.forecast.due {
             self.lag = lag;
-        } else if lag == self.forecast.due && lag < NEVER {
-            self.turn();
         } else {
-            self.catch_up(lag);
+            self.arrive(lag);
         }
     }
 
