@@ -130,7 +130,8 @@ impl<'a, F: Slots> Board<'a, F> {
     }
 
     // Lets the ticks pass, from write to write, and answers their edges. No range counts the stretches, since each depends on what the
-    // one before it did.
+    // one before it did. In a function of its own it leaves an advance on which nothing happens small.
+    #[inline(never)]
     fn run(&mut self, ticks: u64) -> u64
         requires near { ticks ≤ horizon }
         requires time { 1 ≤ ticks → self.old.time + ticks < 2 ^ 62 }
