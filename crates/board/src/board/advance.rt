@@ -1,4 +1,5 @@
-// The passing of time: jumps to the ticks on which something may happen.
+// The passing of time: jumps to the ticks on which something may happen. Jumps are inlined: of what an edge costs, calls would be a
+// tenth.
 ghost use Rattle.std.specs.Prelude.{◌≡◌, ℕ, ◌+◌, ◌-◌, ◌^◌, ◌<◌, ◌≤◌};
 ghost use Rattle.rules.specs.Device.{horizon};
 ghost use Rattle.rules.specs.Board as rules;
@@ -40,6 +41,7 @@ impl<'a, F: Slots> Board<'a, F> {
     }
 
     // Jumps n ticks on, on which no level changes. A handing would do nothing there, since the board is settled, and is left out.
+    #[inline(always)]
     fn jump_quietly(&mut self, n: u64)
         requires near { n ≤ horizon }
         requires quiet { self.old.time + n < self.old.quiet_until }
@@ -51,6 +53,7 @@ impl<'a, F: Slots> Board<'a, F> {
     }
 
     // Jumps k ticks on: the devices skip them, and the levels are handed over once. Answers the edges of the handing.
+    #[inline(always)]
     fn jump(&mut self, k: u64) -> u64
         requires near { k ≤ horizon }
         requires time { self.old.time + k < 2 ^ 62 }
@@ -68,6 +71,7 @@ impl<'a, F: Slots> Board<'a, F> {
     }
 
     // Jumps k ticks on, and then carries out the writes that are due. Answers the edges of all the handings.
+    #[inline(always)]
     fn arrive(&mut self, k: u64) -> u64
         requires near { k ≤ horizon }
         requires time { self.old.time + k < 2 ^ 62 }

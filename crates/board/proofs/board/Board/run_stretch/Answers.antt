@@ -88,7 +88,7 @@ returns-then-end-change g c =
     let left = start.time + c.args.ticks - before.time in
     let ahead = start.time + horizon + 1 - before.time in
     let still = still_before f ahead before.time c.next-change.result (waiting comes_before c.next-change.new.self.agenda) (s before.ports.slots) found.ahead (omega (arith, found.most))
-        (λ n few. found.watched n ahead (omega (arith, known.begun)) (known.watched n few)) found.none in
+    (λ n few. found.watched n ahead (omega (arith, known.begun)) (known.watched n few)) found.none in
     let arrived : Arrives s f left edges before after = record { same = c.arrive-then-end-change.ensures.same; few = c.arrive-then-end-change.ensures.few; nodes = c.arrive-then-end-change.ensures.nodes } in
     let some : 1 ≤ left = omega (arith, known.more) in
     let last : Progress s f (ticking f left) (ticking f (left - left)) 1 edges before after =
