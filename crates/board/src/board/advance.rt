@@ -1,5 +1,5 @@
-// The passing of time: jumps to the ticks on which something may happen. Jumps are inlined: of what an edge costs, calls would be a
-// tenth.
+// The passing of time: jumps to the ticks on which something may happen. Jumps are inlined, which saves about a twentieth of the time that
+// an edge takes.
 ghost use Rattle.std.specs.Prelude.{◌≡◌, ℕ, ◌+◌, ◌-◌, ◌^◌, ◌<◌, ◌≤◌};
 ghost use Rattle.rules.specs.Device.{horizon};
 ghost use Rattle.rules.specs.Board as rules;
