@@ -38,12 +38,7 @@ fn quotient_and_remainder(dividend: u64, divisor: u64) -> (u64, u64)
     ensures whole { result.0 * divisor + result.1 ≡ dividend }
     ensures below { result.1 < divisor }
 {
-    // Mostly less than a period is left, and then there is nothing to divide.
-    if dividend < divisor {
-        (0, dividend)
-    } else {
-        (dividend / divisor, dividend % divisor)
-    }
+    (dividend / divisor, dividend % divisor)
 }
 
 impl Plan {
@@ -64,17 +59,31 @@ impl Plan {
 }
 
 // Gives the inner device its share of the ticks, and answers how many of them that leaves in the last period.
-fn catch_up<D: Device>(inner: &mut D, factor: u64, since: u64) -> u64
+#[inline(never)]
+fn give_share<D: Device>(inner: &mut D, factor: u64, since: u64) -> u64
     requires some { 1 ≤ factor }
     requires near { since ≤ horizon * factor }
     ensures within { result < factor }
     ensures same { lagging D.Device.meaning factor result (D.Device.state inner.new) ≡ lagging D.Device.meaning factor since (D.Device.state inner.old) }
 {
     let (ticks, phase) = quotient_and_remainder(since, factor);
-    if 0 < ticks {
-        inner.skip(ticks);
-    }
+    inner.skip(ticks);
     phase
+}
+
+// The same. Mostly less than a period is left, and then there is nothing to divide.
+#[inline(always)]
+fn catch_up<D: Device>(inner: &mut D, factor: u64, since: u64) -> u64
+    requires some { 1 ≤ factor }
+    requires near { since ≤ horizon * factor }
+    ensures within { result < factor }
+    ensures same { lagging D.Device.meaning factor result (D.Device.state inner.new) ≡ lagging D.Device.meaning factor since (D.Device.state inner.old) }
+{
+    if since < factor {
+        since
+    } else {
+        give_share(inner, factor, since)
+    }
 }
 
 impl<D: Device> Divider<D> {
@@ -127,6 +136,7 @@ impl<D: Device> Device for Divider<D> {
 
     ghost state = { λ d. lagging D.Device.meaning d.factor d.since (D.Device.state d.inner) };
 
+    #[inline(always)]
     fn skip(&mut self, n: u64) {
         let since = self.since + n.min(HORIZON);
         if since < self.plan.due {

@@ -150,6 +150,7 @@ impl Channel {
     }
 
     // OUT changes after n ticks, which pass. Answers when it changes again. A channel that is held announces no change.
+    #[inline(always)]
     pub fn turn(&mut self, n: u64) -> Option<u64>
         requires due { Foresees channel (view_channel self.old) (Some n) }
         ensures turned { view_channel self.new ≡ ticks channel n (view_channel self.old) }

@@ -39,6 +39,7 @@ impl Channels {
     }
 
     // Channels 1 and 2 have the ticks that they lag behind.
+    #[inline(never)]
     fn catch_up(&mut self)
         ensures meaning { view_channels self.new ≡ view_channels self.old }
         ensures lag { self.new.lag ≡ 0 }
@@ -70,6 +71,7 @@ impl Channels {
     }
 
     // Channel 0's OUT changes after n ticks, which pass. Answers when it changes again.
+    #[inline(always)]
     pub fn turn(&mut self, n: u64) -> Option<u64>
         requires due { Foresees timer (view_channels self.old) (Some n) }
         ensures turned { view_channels self.new ≡ ticks timer n (view_channels self.old) }

@@ -120,6 +120,7 @@ impl Counter {
     }
 
     // OUT changes after n ticks, which pass. Answers when it changes again.
+    #[inline(always)]
     pub fn turn(&mut self, n: u64) -> Option<u64>
         requires due { Foresees counting (view_counter self.old) (Some n) }
         ensures turned { view_counter self.new ≡ ticks counting n (view_counter self.old) }

@@ -42,6 +42,7 @@ impl Timer {
     }
 
     // The ticks pass after which OUT changes.
+    #[inline(always)]
     fn turn(&mut self)
         requires change { self.old.forecast.due ≢ NEVER }
         ensures { view self.new ≡ ticks timer self.old.forecast.due (view_channels self.old.channels) }
@@ -54,8 +55,8 @@ impl Timer {
         self.lag = 0;
     }
 
-    // Goes on to n ticks after the forecast, at which OUT changes or past which it may. In a function of its own it leaves a skip small.
-    #[inline(never)]
+    // Goes on to n ticks after the forecast, at which OUT changes or past which it may.
+    #[inline(always)]
     fn arrive(&mut self, n: u64)
         ensures { view self.new ≡ ticks timer n (view_channels self.old.channels) }
     {
@@ -67,6 +68,7 @@ impl Timer {
     }
 
     // The channels have n ticks, those that they lack among them.
+    #[inline(never)]
     fn catch_up(&mut self, n: u64)
         ensures { view self.new ≡ ticks timer n (view_channels self.old.channels) }
     {
@@ -89,6 +91,7 @@ impl Device for Timer {
 
     ghost state = { view };
 
+    #[inline(always)]
     fn skip(&mut self, n: u64) {
         let lag = self.lag + n.min(HORIZON);
         if lag < self.forecast.due {

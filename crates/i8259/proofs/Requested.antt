@@ -1,10 +1,11 @@
 -- The rules' request is the request in terms of bits and ranks, by what its two searches find.
-use Rattle.std.proofs.Common.{◌≡◌, ℕ, ◌-◌, ◌<◌, Bool, true, false, cond, not, ◌&&◌, ltb, Some, None, Option, sym, refl, ap, ◌∙◌, subst, arith}
+use Rattle.std.proofs.Common.{◌≡◌, ℕ, ◌+◌, ◌-◌, ◌%◌, ◌<◌, Bool, true, false, cond, not, ◌&&◌, ltb, Some, None, Option, sym, refl, ap, ◌∙◌, subst, arith}
 use lib.Bits.{bit_and}
 use Rattle.std.proofs.lemmas.Bool.{and_parts, and_from, not-true, both_ways, ltb-true, ltb-false}
-use Rattle.rules.specs.I8259.{bit, rank, first, Chip, initialised, request}
+use Rattle.rules.specs.I8259.{bit, rank, first, Chip, initialised, request, requests}
 use Rattle.i8259.specs.Priority.{ComesFirst, Asks, Requesting}
 use Rattle.i8259.proofs.Bytes.{and_bit, complement_bit}
+use Rattle.i8259.proofs.Searched.{found_nothing}
 
 module _ (c : Chip) (masks : c.imr < 256) where
   asking_bit : (i : ℕ) → i < 8 → bit (bit_and c.irr (255 - c.imr)) i ≡ (bit c.irr i && not (bit c.imr i))
@@ -24,6 +25,17 @@ module _ (c : Chip) (masks : c.imr < 256) where
   chosen : Bool → Option ℕ → Option ℕ → Option ℕ
   chosen ready asking serving =
       cond ready (elim asking [ Some i ↦ elim serving [ Some j ↦ cond (ltb (rank c.lowest i) (rank c.lowest j)) (Some i) None | None ↦ Some i ] | None ↦ None ]) None
+
+  asks_nothing : (ready : Bool) (asking serving : Option ℕ) → asking ≡ None → elim (chosen ready asking serving) [ Some i ↦ true | None ↦ false ] ≡ false
+  unfolding chosen
+  asks_nothing false asking serving e = refl
+  asks_nothing true None serving e = refl
+  asks_nothing true (Some i) serving e = cc
+
+  -- Where nothing is asked for, nothing requests.
+  pub nothing_requests : bit_and c.irr (255 - c.imr) ≡ 0 → requests c ≡ false
+  unfolding chosen
+  nothing_requests none = asks_nothing (initialised c.stage) (first c.lowest (bit_and c.irr (255 - c.imr))) (first c.lowest c.isr) (ap (first c.lowest) none ∙ found_nothing 8 ((c.lowest + 1) % 8))
 
   before_served : (i j : ℕ) (b : Bool) → ltb (rank c.lowest i) (rank c.lowest j) ≡ b → initialised c.stage ≡ true
       → ComesFirst c.lowest (bit_and c.irr (255 - c.imr)) (Some i) → ComesFirst c.lowest c.isr (Some j)

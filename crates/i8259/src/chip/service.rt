@@ -59,7 +59,8 @@ impl Chip {
     pub fn requests(&self) -> bool
         ensures { result ≡ rules.requests self.now }
     {
-        self.request().is_some()
+        // Mostly nothing is asked for at all.
+        self.irr & !self.imr != 0 && self.request().is_some()
     }
 
     // Answers with a vector. The requesting input moves from the IRR to the ISR; where none requests, nothing changes.

@@ -2,11 +2,11 @@ use Rattle.std.proofs.Common.{◌+◌, ◌/◌, ◌<◌, ◌≤◌, div-lt_iff_l
 use native.Mathlib.Nat.{min-eq_left}
 use Rattle.rules.specs.Device.{horizon}
 use Rattle.rules.specs.TickLaws.{lagging_less}
-use Rattle.device.proofs.divider.catch_up.Goals as goal
+use Rattle.device.proofs.divider.give_share.Goals as goal
 
 -- The inner device's share of at most 2^32 periods is at most 2^32 itself, so its own limit changes nothing.
-pub returns-then-ticks-gt0-clause-same : goal.returns-then-ticks-gt0-clause-same
-returns-then-ticks-gt0-clause-same g c =
+pub returns-clause-same : goal.returns-clause-same
+returns-clause-same g c =
     let m = g.D.Device.meaning in
     let s = g.D.Device.state c.args.inner.now in
     let factor = c.args.factor in
