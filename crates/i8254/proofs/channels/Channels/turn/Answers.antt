@@ -1,5 +1,4 @@
 use Rattle.std.proofs.Common.{◌≡◌, Some, sym, ap, ◌∙◌, subst}
-use Rattle.rules.specs.Device.{ticks}
 use Rattle.i8254_laws.specs.Foresight.{Foresees}
 use Rattle.i8254_laws.specs.Machines.{channel}
 use Rattle.i8254_laws.specs.Runs.{ticks_timer, timer_foresees, channel_0_foresees}

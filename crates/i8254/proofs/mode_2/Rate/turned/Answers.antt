@@ -1,5 +1,4 @@
 use Rattle.std.proofs.Common.{◌≡◌, ℕ, ◌%◌, ◌≤◌, sym, ◌∙◌, subst, arith}
-use Rattle.rules.specs.I8254.{Counter}
 use Rattle.i8254_laws.specs.Machines.{counting, Turns}
 use Rattle.i8254_laws.specs.Counters.{mode_2_counter}
 use Rattle.i8254_laws.specs.Mode2.{rate_falls, rate_rises}
