@@ -1,5 +1,5 @@
 -- The deadlines of the slots: in which order they come, and what they tell of the ticks ahead.
-use Rattle.std.specs.Prelude.{◌≡◌, ℕ, ◌+◌, ◌-◌, ◌≤◌, min, Bool, true, false, ◌&&◌, ◌||◌, List, [], ◌∷◌, Some, None, Option, ◌==◌, nat_lt}
+use Rattle.std.specs.Prelude.{◌≡◌, ℕ, ◌+◌, ◌≤◌, min, Bool, true, false, ◌&&◌, ◌||◌, List, [], ◌∷◌, Some, None, Option, ◌==◌, nat_lt}
 use Rattle.std.proofs.Common.{rules}
 use Rattle.agenda.specs.Order.{IsStrictTotalOrder}
 use Rattle.rules.specs.Ascending.{insert}

@@ -111,6 +111,7 @@ impl<'n> Deadlines<'n> {
         ensures ahead { now < result }
         ensures most { result ≤ known }
         ensures none { (n : ℕ) → NoneBefore n result (waiting comes_before self.new.agenda) }
+        ensures nearest { result ≡ first_tick known (waiting comes_before self.new.agenda) }
         ensures watched { (n ahead : ℕ) → ahead ≤ horizon + 1 → Watched F.fitting n ahead now (waiting comes_before self.old.agenda) (F.states slots.now) → Watched F.fitting n ahead now (waiting comes_before self.new.agenda) (F.states slots.now) }
     {
         self.renew(slots, now);

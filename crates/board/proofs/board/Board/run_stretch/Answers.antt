@@ -1,14 +1,14 @@
 use Rattle.std.proofs.Common.{◌≡◌, ℕ, ◌+◌, ◌-◌, ◌<◌, ◌≤◌, sym, ap, subst, refl, rules, arith}
 use Rattle.agenda.specs.Waiting.{waiting}
 use Rattle.rules.specs.Board.{Board, hand}
-use Rattle.board_laws.specs.Jump.{NoneDue, Idle, later}
+use Rattle.board_laws.specs.Jump.{NoneDue, later}
 use Rattle.rules.specs.Device.{horizon}
 use Rattle.slots.specs.Slots.{States}
 use Rattle.board.specs.Deadlines.{comes_before, Watched}
 use Rattle.board.specs.View.{view}
 use Rattle.board.specs.Steps.{Progress, Arrives, arriving, due, ticking}
 use Rattle.board.proofs.Called.{few_pending}
-use Rattle.board.proofs.Progressing.{progress_both, same_end, jumped, jump_arrives, handed_alone, settled, ran_out}
+use Rattle.board.proofs.Progressing.{progress_both, jumped, jump_arrives, handed_alone, settled, ran_out}
 use Rattle.board.proofs.Stillness.{later_watched, still_before}
 use Rattle.board.proofs.board.Board.run_stretch.Goals as goal
 
