@@ -6,7 +6,9 @@ use Rattle.agenda.specs.declared.Entry.{Ghosts}
 use Rattle.agenda.specs.declared.agenda.Agenda.{Agenda}
 use Rattle.std.proofs.lemmas.Bool.{and_from}
 use Rattle.rules.specs.Ascending.{insert}
-use Rattle.rules.specs.Board.{Board, Fitting, Answer, Answered, edges_seen, done, refused, do_advance, do_queue, tick_times, with_pending, precedes, end_of_time, most_nodes}
+use Rattle.rules.specs.Board.{Board, Fitting, Answered, do_advance, do_queue, tick_times, with_pending, precedes, end_of_time, most_nodes}
+use Rattle.rules.specs.declared.calls.Answer.{Answer}
+use Rattle.rules.specs.declared.calls.Answer.TheVariants.{Edges, Done, Refused}
 use Rattle.rules.specs.declared.queued.QueuedWrite.{QueuedWrite}
 use Rattle.rules.specs.declared.refusal.Refusal.TheVariants.{QueueFull}
 use Rattle.rules.specs.Device.{horizon}
@@ -59,13 +61,13 @@ module _ {S0 S1 S2 S3 : Type 0} (f : Fitting S0 S1 S2 S3) (w : QueuedWrite) (b :
   in_time : (ltb b.time w.tick && leb w.tick end_of_time) ≡ true
   in_time = and_from (ltb b.time w.tick) (leb w.tick end_of_time) (lt-ltb b.time w.tick ahead) (le-leb w.tick end_of_time within)
 
-  pub queue_taken : length b.pending < b.nodes → do_queue f w b ≡ answered done (with_pending (insert precedes w b.pending) b)
+  pub queue_taken : length b.pending < b.nodes → do_queue f w b ≡ answered Done (with_pending (insert precedes w b.pending) b)
   queue_taken room = rw (in_time, do_queue) (rw (lt-ltb (length b.pending) b.nodes room, do_queue))
 
-  pub queue_full : b.nodes ≤ length b.pending → do_queue f w b ≡ answered (refused QueueFull) b
+  pub queue_full : b.nodes ≤ length b.pending → do_queue f w b ≡ answered (Refused QueueFull) b
   queue_full full = rw (in_time, do_queue) (rw (le-ltb (length b.pending) b.nodes full, do_queue))
 
 -- What an advance comes to, by its tests.
 pub advance_taken : {S0 S1 S2 S3 : Type 0} (f : Fitting S0 S1 S2 S3) (n : ℕ) (b after : Board S0 S1 S2 S3) (e : ℕ) → n ≤ horizon → n ≤ end_of_time - b.time → tick_times f n (counted f b 0) ≡ counted f after e
-    → do_advance f n b ≡ answered (edges_seen e) after
+    → do_advance f n b ≡ answered (Edges e) after
 advance_taken f n b after e near within ran = rw (le-ltb horizon n near, do_advance) (rw (le-ltb (end_of_time - b.time) n within, do_advance) (rw ran))

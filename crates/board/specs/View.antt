@@ -1,6 +1,8 @@
 -- What the code's board stands for: the tick board of the rules.
 use Rattle.std.specs.Prelude.{◌≡◌}
 use Rattle.rules.specs.Board as rules
+use Rattle.rules.specs.declared.calls.Answer.{Answer}
+use Rattle.rules.specs.declared.calls.Call.{Call}
 use Rattle.agenda.specs.Nodes.{usable}
 use Rattle.agenda.specs.Waiting.{waiting, Kept}
 use Rattle.slots.specs.Slots.{States}
@@ -14,6 +16,6 @@ module _ {F S0 S1 S2 S3 : Type 0} {slots : Ghosts F} (states : F → States S0 S
 
   -- A call did on the board what the tick board does: it gave the same answer and left the same state. Of the lent nodes, those
   -- past the usable ones are as they were.
-  pub record Does (f : rules.Fitting S0 S1 S2 S3) (call : rules.Call) (before : Board F slots) (answer : rules.Answer) (after : Board F slots) : Type 0 where
+  pub record Does (f : rules.Fitting S0 S1 S2 S3) (call : Call) (before : Board F slots) (answer : Answer) (after : Board F slots) : Type 0 where
     pub same : record { answer = answer; board = view after } ≡ rules.call f call (view before)
     pub nodes : Kept before.queue after.queue

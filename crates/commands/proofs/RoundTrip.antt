@@ -9,7 +9,7 @@ use Rattle.std.proofs.lemmas.Str.Parse.{digit_from_value}
 use Rattle.commands.specs.Words.{is_blank, words}
 use Rattle.commands.specs.Grammar.{WriteEach, Number, name_of, numbers_of, written_behind, written, Fit}
 use Rattle.commands.specs.declared.command.Command.{Command}
-use Rattle.commands.specs.declared.command.Command.TheVariants.{Outb, Inb, ClockStep, Iack, Queue, State, Help, Quit}
+use Rattle.commands.specs.declared.command.Command.TheVariants.{Outb, Inb, ClockStep, Iack, Irq, Queue, State, Help, Quit}
 use Rattle.commands.specs.Meaning.{meaning}
 use Rattle.commands.proofs.Lines.{spells_means}
 use Rattle.commands.proofs.Splitting.{words_one, words_more}
@@ -91,6 +91,7 @@ name_is_token (Outb port byte) = record { some = lit< tt; plain = over_tested 33
 name_is_token (Inb port) = record { some = lit< tt; plain = over_tested 33 (codes "inb") refl }
 name_is_token (ClockStep n) = record { some = lit< tt; plain = over_tested 33 (codes "clock_step") refl }
 name_is_token Iack = record { some = lit< tt; plain = over_tested 33 (codes "iack") refl }
+name_is_token Irq = record { some = lit< tt; plain = over_tested 33 (codes "irq") refl }
 name_is_token (Queue write) = record { some = lit< tt; plain = over_tested 33 (codes "queue") refl }
 name_is_token State = record { some = lit< tt; plain = over_tested 33 (codes "state") refl }
 name_is_token Help = record { some = lit< tt; plain = over_tested 33 (codes "help") refl }
@@ -101,6 +102,7 @@ small_numbers (Outb port byte) h = (omega (arith, h.0), (omega (arith, h.1.0), t
 small_numbers (Inb port) h = (omega (arith, h.0), tt)
 small_numbers (ClockStep n) h = (h.0, tt)
 small_numbers Iack h = tt
+small_numbers Irq h = tt
 small_numbers (Queue write) h = (h.0, (omega (arith, h.1.0), (omega (arith, h.1.1.0), tt)))
 small_numbers State h = tt
 small_numbers Help h = tt

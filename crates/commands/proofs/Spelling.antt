@@ -10,7 +10,7 @@ use Rattle.commands.specs.Meaning as meaning
 use Rattle.commands.specs.Meaning.{Reads}
 use Rattle.commands.specs.Grammar.{Writes, WriteEach, Number, of_bits, name_of, numbers_of}
 use Rattle.commands.specs.declared.command.Command.{Command}
-use Rattle.commands.specs.declared.command.Command.TheVariants.{Outb, Inb, ClockStep, Iack, Queue, State, Help, Quit}
+use Rattle.commands.specs.declared.command.Command.TheVariants.{Outb, Inb, ClockStep, Iack, Irq, Queue, State, Help, Quit}
 use Rattle.commands.specs.declared.command.Unreadable.{Unreadable}
 use Rattle.commands.specs.declared.command.Unreadable.TheVariants.{MissingWord, NotANumber, TooLarge}
 use Rattle.commands.proofs.Digits.{AllDigits-from_test, test-from_AllDigits, number_small, number_large}
@@ -95,6 +95,7 @@ spelled_reads (ClockStep n) words h =
     let (rest, last, first) = given 64 _ n [] words h in
     first ∙ ap (λ ws. Ok (ClockStep n, ws)) (none_left rest last)
 spelled_reads Iack words h = ap (λ ws. Ok (Iack, ws)) (none_left words h)
+spelled_reads Irq words h = ap (λ ws. Ok (Irq, ws)) (none_left words h)
 spelled_reads (Queue write) words h =
     let (more, each, first) = given 64 _ write.tick _ words h in
     let (most, every, second) = given 16 _ write.port _ more each in
@@ -138,6 +139,10 @@ module _ (c : Command) (words : List (List ℕ)) where
   unfolding meaning.named
   read_iack h = last_read Iack _ words h refl (λ w. w)
 
+  read_irq : Reads_as (codes "irq")
+  unfolding meaning.named
+  read_irq h = last_read Irq _ words h refl (λ w. w)
+
   read_queue : Reads_as (codes "queue")
   unfolding meaning.named
   read_queue h =
@@ -170,8 +175,8 @@ module _ (c : Command) (words : List (List ℕ)) where
     read_named : IsWritten c name words
     read_named =
         by_name _ read_outb (λ a. by_name _ read_inb (λ b. by_name _ read_clock_step (λ d. by_name _ read_iack (λ e.
-        by_name _ read_queue (λ f. by_name _ read_state (λ g. by_name _ read_help (λ i. by_name _ read_quit (λ j.
-        let k = sym (unknown name words (a, b, d, e, f, g, i, j)) ∙ h in absurd cc))))))))
+        by_name _ read_irq (λ f. by_name _ read_queue (λ g. by_name _ read_state (λ i. by_name _ read_help (λ j. by_name _ read_quit (λ l.
+        let k = sym (unknown name words (a, b, d, e, f, g, i, j, l)) ∙ h in absurd cc)))))))))
 
 -- The words of a command: its name, and words that write its numbers.
 pub reads_spelled : (c : Command) (words : List (List ℕ)) → meaning.command words ≡ Ok (c, []) → (arguments : List (List ℕ)) × (words ≡ name_of c ∷ arguments) × WriteEach arguments (numbers_of c)

@@ -107,15 +107,15 @@ differs name text other = false_from_ne_true _ (λ t. other ((bytes_eq-Decides n
 
 -- A name is none of these.
 abbrev pub IsOther : List ℕ → Type 0
-IsOther name = ((name ≡ codes "outb" → ⊥) × (name ≡ codes "inb" → ⊥) × (name ≡ codes "clock_step" → ⊥) × (name ≡ codes "iack" → ⊥) × (name ≡ codes "queue" → ⊥) × (name ≡ codes "state" → ⊥) × (name ≡ codes "help" → ⊥) × (name ≡ codes "quit" → ⊥))
+IsOther name = ((name ≡ codes "outb" → ⊥) × (name ≡ codes "inb" → ⊥) × (name ≡ codes "clock_step" → ⊥) × (name ≡ codes "iack" → ⊥) × (name ≡ codes "irq" → ⊥) × (name ≡ codes "queue" → ⊥) × (name ≡ codes "state" → ⊥) × (name ≡ codes "help" → ⊥) × (name ≡ codes "quit" → ⊥))
 
 pub unknown : (name : List ℕ) (words : List (List ℕ)) → IsOther name → meaning.named name words ≡ Err UnknownCommand
 unfolding meaning.named
 unknown name words h =
-    rw (differs name _ h.0, differs name _ h.1, differs name _ h.2, differs name _ h.3, differs name _ h.4, differs name _ h.5, differs name _ h.6, differs name _ h.7, meaning.named)
+    rw (differs name _ h.0, differs name _ h.1, differs name _ h.2, differs name _ h.3, differs name _ h.4, differs name _ h.5, differs name _ h.6, differs name _ h.7, differs name _ h.8, meaning.named)
 
 -- The names are text.
 pub other_bytes : (name : List ℕ) → (IsUtf8 name → ⊥) → IsOther name
 other_bytes name bytes =
     let other : (text : List ℕ) → IsAscii text → name ≡ text → ⊥ = λ text ascii e. bytes (rw e (IsUtf8-from_ascii text ascii)) in
-    (other _ (search rules), other _ (search rules), other _ (search rules), other _ (search rules), other _ (search rules), other _ (search rules), other _ (search rules), other _ (search rules))
+    (other _ (search rules), other _ (search rules), other _ (search rules), other _ (search rules), other _ (search rules), other _ (search rules), other _ (search rules), other _ (search rules), other _ (search rules))

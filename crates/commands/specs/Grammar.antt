@@ -4,7 +4,7 @@ use Rattle.std.specs.Str.Parse.{IsNumeral, digits_value}
 use Rattle.commands.specs.Words.{words_of_line}
 use Rattle.commands.specs.Meaning.{meaning}
 use Rattle.commands.specs.declared.command.Command.{Command}
-use Rattle.commands.specs.declared.command.Command.TheVariants.{Outb, Inb, ClockStep, Iack, Queue, State, Help, Quit}
+use Rattle.commands.specs.declared.command.Command.TheVariants.{Outb, Inb, ClockStep, Iack, Irq, Queue, State, Help, Quit}
 
 -- A word writes a number: in decimal digits, or in 0x and hexadecimal digits of either case, with leading zeros or without.
 abbrev pub Writes : List ℕ → ℕ → Type 0
@@ -17,6 +17,7 @@ name_of (Outb port byte) = codes "outb"
 name_of (Inb port) = codes "inb"
 name_of (ClockStep n) = codes "clock_step"
 name_of Iack = codes "iack"
+name_of Irq = codes "irq"
 name_of (Queue write) = codes "queue"
 name_of State = codes "state"
 name_of Help = codes "help"
@@ -35,6 +36,7 @@ numbers_of (Outb port byte) = of_bits 16 port ∷ of_bits 8 byte ∷ []
 numbers_of (Inb port) = of_bits 16 port ∷ []
 numbers_of (ClockStep n) = of_bits 64 n ∷ []
 numbers_of Iack = []
+numbers_of Irq = []
 numbers_of (Queue write) = of_bits 64 write.tick ∷ of_bits 16 write.port ∷ of_bits 8 write.byte ∷ []
 numbers_of State = []
 numbers_of Help = []

@@ -3,7 +3,7 @@ use Rattle.std.specs.Prelude.{ℕ, ◌^◌, List, [], ◌∷◌, Ok, Err, Result
 use Rattle.commands.specs.Words.{words_of_line}
 use Rattle.commands.specs.Numbers.{number_below}
 use Rattle.commands.specs.declared.command.Command.{Command}
-use Rattle.commands.specs.declared.command.Command.TheVariants.{Outb, Inb, ClockStep, Iack, Queue, State, Help, Quit}
+use Rattle.commands.specs.declared.command.Command.TheVariants.{Outb, Inb, ClockStep, Iack, Irq, Queue, State, Help, Quit}
 use Rattle.commands.specs.declared.command.Unreadable.{Unreadable}
 use Rattle.commands.specs.declared.command.Unreadable.TheVariants.{EmptyLine, UnknownCommand, MissingWord, ExtraWord}
 
@@ -38,6 +38,7 @@ named name =
     else if bytes_eq name (codes "inb") then and_then port (λ p. done (Inb p))
     else if bytes_eq name (codes "clock_step") then and_then wide (λ n. done (ClockStep n))
     else if bytes_eq name (codes "iack") then done Iack
+    else if bytes_eq name (codes "irq") then done Irq
     else if bytes_eq name (codes "queue") then and_then wide (λ t. and_then port (λ p. and_then byte (λ b. done (Queue (record { tick = t; port = p; byte = b })))))
     else if bytes_eq name (codes "state") then done State
     else if bytes_eq name (codes "help") then done Help

@@ -16,6 +16,8 @@ pub enum Command {
     ClockStep(u64),
     // `iack`
     Iack,
+    // `irq`
+    Irq,
     // `queue TICK PORT BYTE`
     Queue(QueuedWrite),
     // `state`

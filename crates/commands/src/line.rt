@@ -24,6 +24,7 @@ fn command(words: &mut Words<'_>) -> Result<Command, Unreadable>
         Ok("inb") => Ok(Command::Inb(words.port()?)),
         Ok("clock_step") => Ok(Command::ClockStep(words.number()?)),
         Ok("iack") => Ok(Command::Iack),
+        Ok("irq") => Ok(Command::Irq),
         Ok("queue") => Ok(Command::Queue(QueuedWrite {
             tick: words.number()?,
             port: words.port()?,

@@ -10,7 +10,7 @@ const OUTB: Command = Command::Outb {
 
 #[test]
 fn commands(rt: HostRuntime) {
-    let lines: [(&[u8], Command); 12] = [
+    let lines: [(&[u8], Command); 13] = [
         (b"outb 0x20 0x11", OUTB),
         (b"\toutb  32\t17 \r", OUTB),
         (
@@ -28,6 +28,7 @@ fn commands(rt: HostRuntime) {
             Command::ClockStep(u64::MAX),
         ),
         (b"iack", Command::Iack),
+        (b"irq", Command::Irq),
         (
             b"queue 10 0x3f8 0xff",
             Command::Queue(QueuedWrite {
@@ -47,17 +48,19 @@ fn commands(rt: HostRuntime) {
 
 #[test]
 fn unreadable_lines(rt: HostRuntime) {
-    let lines: [(&[u8], Unreadable); 18] = [
+    let lines: [(&[u8], Unreadable); 20] = [
         (b"", Unreadable::EmptyLine),
         (b" \t\r", Unreadable::EmptyLine),
         (b"IACK", Unreadable::UnknownCommand),
         (b"iack\n", Unreadable::UnknownCommand),
         (b"iack\r\r", Unreadable::UnknownCommand),
         (b"iack\xFF", Unreadable::UnknownCommand),
+        (b"IRQ", Unreadable::UnknownCommand),
         (b"queue 1 2", Unreadable::MissingWord),
         (b"inb", Unreadable::MissingWord),
         (b"inb 1 2", Unreadable::ExtraWord),
         (b"state now", Unreadable::ExtraWord),
+        (b"irq 1", Unreadable::ExtraWord),
         (b"inb 0x", Unreadable::NotANumber),
         (b"inb 0xG", Unreadable::NotANumber),
         (b"inb 0X1", Unreadable::NotANumber),
@@ -96,10 +99,12 @@ fn numbers(rt: HostRuntime) {
 
 #[test]
 fn replies(rt: HostRuntime) {
-    let lines: [(Reply, &[u8]); 7] = [
+    let lines: [(Reply, &[u8]); 9] = [
         (Reply::Done, b"OK\n"),
         (Reply::Quit, b"OK\n"),
         (Reply::Byte(0x0A), b"OK 0x0A\n"),
+        (Reply::Requested(true), b"OK 1\n"),
+        (Reply::Requested(false), b"OK 0\n"),
         (Reply::Stepped { time: 12, edges: 0 }, b"OK 12 0\n"),
         (Reply::Refused(Refusal::QueueFull), b"FAIL 9 Q\n"),
         (Reply::Refused(Refusal::OutputFull), b"FAIL 10 T\n"),

@@ -1,5 +1,5 @@
 -- Every byte of a line.
-use Rattle.std.specs.Prelude.{ℕ, List, [], ◌∷◌, ◌++◌, codes, decimal}
+use Rattle.std.specs.Prelude.{ℕ, true, false, List, [], ◌∷◌, ◌++◌, codes, decimal}
 use Rattle.rules.specs.Refusals.{told, letter}
 use Rattle.rules.specs.Trace.{hex_byte}
 use Rattle.commands.specs.Reasons.{reason_of}
@@ -27,9 +27,11 @@ state_text s =
 abbrev pub text_of : Reply → List ℕ
 text_of reply.Done = codes "OK"
 text_of (reply.Byte b) = codes "OK " ++ byte_text b
+text_of (reply.Requested true) = codes "OK 1"
+text_of (reply.Requested false) = codes "OK 0"
 text_of (reply.Stepped time edges) = codes "OK " ++ decimal time ++ codes " " ++ decimal edges
 text_of (reply.State s) = state_text s
-text_of reply.Help = codes "OK outb PORT BYTE, inb PORT, clock_step N, iack, queue TICK PORT BYTE, state, help, quit"
+text_of reply.Help = codes "OK outb PORT BYTE, inb PORT, clock_step N, iack, irq, queue TICK PORT BYTE, state, help, quit"
 text_of reply.Quit = codes "OK"
 text_of (reply.Refused r) = codes "FAIL " ++ decimal (told r).number ++ 32 ∷ letter (told r).layer ∷ []
 text_of (reply.Unreadable u) = codes "FAIL " ++ reason_of u

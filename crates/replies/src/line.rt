@@ -11,7 +11,7 @@ pub const LONGEST_LINE: usize = 125;
 
 // The commands, in the words of their grammar.
 const HELP: &str =
-    "OK outb PORT BYTE, inb PORT, clock_step N, iack, queue TICK PORT BYTE, state, help, quit";
+    "OK outb PORT BYTE, inb PORT, clock_step N, iack, irq, queue TICK PORT BYTE, state, help, quit";
 
 // The bytes of a line. They lie in the value itself, and nothing is allocated.
 #[derive(Drop)]
@@ -109,6 +109,8 @@ impl Line {
                 self.text(b"OK ");
                 self.byte(byte);
             }
+            Reply::Requested(true) => self.text(b"OK 1"),
+            Reply::Requested(false) => self.text(b"OK 0"),
             Reply::Stepped { time, edges } => {
                 self.text(b"OK ");
                 self.number(time);

@@ -26,6 +26,8 @@ pub enum Reply {
     Done,
     // `OK 0xvv`
     Byte(u8),
+    // `OK 1` where the master requests, and else `OK 0`
+    Requested(bool),
     // `OK time edges`
     Stepped { time: u64, edges: u64 },
     // `OK time=T pending=P master irr=0xvv isr=0xvv imr=0xvv slave irr=0xvv isr=0xvv imr=0xvv`

@@ -4,6 +4,10 @@ use Rattle.std.specs.Bool.{beq}
 use Rattle.rules.specs.Ascending.{insert}
 use Rattle.rules.specs.Device.{Meaning, horizon}
 use Rattle.rules.specs.I8259.{Pair, standing_pair, drive_lines, vector, acknowledged, requests, read_chip, write_chip}
+use Rattle.rules.specs.declared.calls.Answer.{Answer}
+use Rattle.rules.specs.declared.calls.Answer.TheVariants.{Edges, Byte, Done, Requested, Refused}
+use Rattle.rules.specs.declared.calls.Call.{Call}
+use Rattle.rules.specs.declared.calls.Call.TheVariants.{Advance, Read, Write, Queue, Acknowledge, CheckRequest}
 use Rattle.rules.specs.declared.queued.QueuedWrite.{QueuedWrite}
 use Rattle.rules.specs.declared.refusal.Refusal.{Refusal}
 use Rattle.rules.specs.declared.refusal.Refusal.TheVariants.{LongAdvance, PastEnd, BadTick, QueueFull}
@@ -85,22 +89,7 @@ pub record Counted (A B C D : Type 0) : Type 0 where
   pub board : Board A B C D
   pub edges : ℕ
 
--- The six calls, and what a board answers.
-pub data Call : Type 0 where
-  advance : (n : ℕ) → Call
-  read : (port : ℕ) → Call
-  write : (port byte : ℕ) → Call
-  queue : (tick port byte : ℕ) → Call
-  acknowledge : Call
-  check_request : Call
-
-pub data Answer : Type 0 where
-  edges_seen : ℕ → Answer
-  byte_given : ℕ → Answer
-  done : Answer
-  requested : Bool → Answer
-  refused : Refusal → Answer
-
+-- What a board answers to one of the six calls, and what it leaves.
 pub record Answered (A B C D : Type 0) : Type 0 where
   pub answer : Answer
   pub board : Board A B C D
@@ -230,11 +219,11 @@ module _ {A B C D : Type 0} (f : Fitting A B C D) where
   abbrev pub do_advance : ℕ → Board A B C D → Answered A B C D
   do_advance n b =
       elim (nat_lt horizon n) [
-        | true ↦ record { answer = refused LongAdvance; board = b }
+        | true ↦ record { answer = Refused LongAdvance; board = b }
         | false ↦
             elim (nat_lt (end_of_time - b.time) n) [
-              | true ↦ record { answer = refused PastEnd; board = b }
-              | false ↦ (let after = tick_times n (record { board = b; edges = 0 }) in record { answer = edges_seen after.edges; board = after.board })
+              | true ↦ record { answer = Refused PastEnd; board = b }
+              | false ↦ (let after = tick_times n (record { board = b; edges = 0 }) in record { answer = Edges after.edges; board = after.board })
             ]
       ]
 
@@ -242,23 +231,23 @@ module _ {A B C D : Type 0} (f : Fitting A B C D) where
   abbrev pub do_queue : QueuedWrite → Board A B C D → Answered A B C D
   do_queue w b =
       elim (nat_lt b.time w.tick && nat_le w.tick end_of_time) [
-        | false ↦ record { answer = refused BadTick; board = b }
+        | false ↦ record { answer = Refused BadTick; board = b }
         | true ↦
             elim (nat_lt (length b.pending) b.nodes) [
-              | false ↦ record { answer = refused QueueFull; board = b }
-              | true ↦ record { answer = done; board = with_pending (insert precedes w b.pending) b }
+              | false ↦ record { answer = Refused QueueFull; board = b }
+              | true ↦ record { answer = Done; board = with_pending (insert precedes w b.pending) b }
             ]
       ]
 
   -- What each call answers and leaves. A direct read or write and an acknowledge each end in one handing; the request check
   -- changes nothing.
   abbrev pub call : Call → Board A B C D → Answered A B C D
-  call (advance n) b = do_advance n b
-  call (read port) b = record { answer = byte_given (byte_read port b); board = hand (after_read port b) }
-  call (write port v) b = record { answer = done; board = hand (after_write port v b) }
-  call (queue t port v) b = do_queue (record { tick = t; port = port; byte = v }) b
-  call acknowledge b = record { answer = byte_given (vector b.pair); board = hand (with_pair (acknowledged b.pair) b) }
-  call check_request b = record { answer = requested (requests b.pair.master); board = b }
+  call (Advance n) b = do_advance n b
+  call (Read port) b = record { answer = Byte (byte_read port b); board = hand (after_read port b) }
+  call (Write port v) b = record { answer = Done; board = hand (after_write port v b) }
+  call (Queue w) b = do_queue w b
+  call Acknowledge b = record { answer = Byte (vector b.pair); board = hand (with_pair (acknowledged b.pair) b) }
+  call CheckRequest b = record { answer = Requested (requests b.pair.master); board = b }
 
   -- A new board: time 0, an empty bag, and the levels that its devices show count as already handed over, without a rise.
   abbrev pub new_board : ℕ → A → B → C → D → Board A B C D

@@ -3,7 +3,10 @@ use Rattle.std.specs.Prelude.{ℕ, zero, suc, ◌+◌, ◌-◌, ◌*◌, ◌/◌
 use Rattle.rules.specs.Refusals.{told, letter}
 use Rattle.rules.specs.declared.refusal.Refusal.{Refusal}
 use Rattle.rules.specs.declared.refusal.Refusal.TheVariants.{NotATrace, CutOff, UnknownKind, WrongLength, NotPrintable, OutputFull}
-use Rattle.rules.specs.Board.{Board, Fitting, Call, Answer, edges_seen, byte_given, done, requested, refused, new_board, call}
+use Rattle.rules.specs.Board.{Board, Fitting, new_board, call}
+use Rattle.rules.specs.declared.calls.Answer.{Answer}
+use Rattle.rules.specs.declared.calls.Answer.TheVariants.{Edges, Byte, Done, Requested, Refused}
+use Rattle.rules.specs.declared.calls.Call.TheVariants as calls
 use Rattle.rules.specs.Device.{divided, divide, empty_device, Divided}
 use Rattle.rules.specs.I8254.{timer, power_on_timer, Timer}
 
@@ -180,33 +183,33 @@ run_board perform room b trace = (run perform room b trace).board
 module _ {A B C D : Type 0} (f : Fitting A B C D) where
   -- What a call prints: its own line, or the refusal's.
   abbrev pub answer_line : List ℕ → ℕ → Answer → List ℕ
-  answer_line line place (edges_seen n) = line
-  answer_line line place (byte_given v) = line
-  answer_line line place done = line
-  answer_line line place (requested b) = line
-  answer_line line place (refused r) = refusal_line r place
+  answer_line line place (Edges n) = line
+  answer_line line place (Byte v) = line
+  answer_line line place Done = line
+  answer_line line place (Requested b) = line
+  answer_line line place (Refused r) = refusal_line r place
 
   abbrev pub edges_of : Answer → ℕ
-  edges_of (edges_seen n) = n
-  edges_of (byte_given v) = 0
-  edges_of done = 0
-  edges_of (requested b) = 0
-  edges_of (refused r) = 0
+  edges_of (Edges n) = n
+  edges_of (Byte v) = 0
+  edges_of Done = 0
+  edges_of (Requested b) = 0
+  edges_of (Refused r) = 0
 
   abbrev pub byte_of : Answer → ℕ
-  byte_of (edges_seen n) = 0
-  byte_of (byte_given v) = v
-  byte_of done = 0
-  byte_of (requested b) = 0
-  byte_of (refused r) = 0
+  byte_of (Edges n) = 0
+  byte_of (Byte v) = v
+  byte_of Done = 0
+  byte_of (Requested b) = 0
+  byte_of (Refused r) = 0
 
   -- A record carried out on the tick board.
   unfoldable pub on_board : Record → ℕ → Board A B C D → Performed (Board A B C D)
-  on_board (advance n) place b = (let a = call f (Call.advance n) b in record { line = answer_line (advance_line a.board.time (edges_of a.answer)) place a.answer; board = a.board })
-  on_board (read port) place b = (let a = call f (Call.read port) b in record { line = access_line 82 port (byte_of a.answer); board = a.board })
-  on_board (write port v) place b = (let a = call f (Call.write port v) b in record { line = access_line 87 port v; board = a.board })
-  on_board acknowledge place b = (let a = call f Call.acknowledge b in record { line = vector_line (byte_of a.answer); board = a.board })
-  on_board (queue t port v) place b = (let a = call f (Call.queue t port v) b in record { line = answer_line (queue_line t) place a.answer; board = a.board })
+  on_board (advance n) place b = (let a = call f (calls.Advance n) b in record { line = answer_line (advance_line a.board.time (edges_of a.answer)) place a.answer; board = a.board })
+  on_board (read port) place b = (let a = call f (calls.Read port) b in record { line = access_line 82 port (byte_of a.answer); board = a.board })
+  on_board (write port v) place b = (let a = call f (calls.Write port v) b in record { line = access_line 87 port v; board = a.board })
+  on_board acknowledge place b = (let a = call f calls.Acknowledge b in record { line = vector_line (byte_of a.answer); board = a.board })
+  on_board (queue t port v) place b = (let a = call f (calls.Queue (record { tick = t; port = port; byte = v })) b in record { line = answer_line (queue_line t) place a.answer; board = a.board })
   on_board (note text) place b = record { line = note_line text; board = b }
 
 -- The standard fitting: slot 0 has the 8254 behind a divider of 12, the others are empty; the runner lends 256 nodes.

@@ -3,9 +3,11 @@
 
 ghost use Rattle.rules.specs.Examples.{WorkedExamples};
 
+pub mod calls;
 pub mod queued;
 pub mod refusal;
 
+pub use calls::{Answer, Call};
 pub use queued::QueuedWrite;
 pub use refusal::{Layer, Refusal};
 

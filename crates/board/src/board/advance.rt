@@ -13,7 +13,7 @@ ghost use Rattle.board.specs.View.{view, Does};
 use super::deadlines::{Deadline, Deadlines};
 use super::{Board, END_OF_TIME, quiet_after};
 use device::HORIZON;
-use rules::Refusal;
+use rules::{Call, Refusal};
 use slots::Slots;
 
 impl<'a, F: Slots> Board<'a, F> {
@@ -166,7 +166,7 @@ impl<'a, F: Slots> Board<'a, F> {
 
     // Lets n ticks pass and answers how many edges they had.
     pub fn advance(&mut self, n: u64) -> Result<u64, Refusal>
-        ensures { Does F.states F.fitting (rules.Call.advance n) self.old (of_advance result) self.new }
+        ensures { Does F.states F.fitting (Call.Advance n) self.old (of_advance result) self.new }
     {
         if HORIZON < n {
             return Err(Refusal::LongAdvance);

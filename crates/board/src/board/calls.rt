@@ -9,7 +9,7 @@ use super::handing::Ports;
 use super::{Board, END_OF_TIME, quiet_after};
 use agenda::Agenda;
 use i8259::{Chip, Which};
-use rules::{QueuedWrite, Refusal};
+use rules::{Answer, Call, QueuedWrite, Refusal};
 use slots::Slots;
 
 impl<'a, F: Slots> Board<'a, F> {
@@ -48,7 +48,7 @@ impl<'a, F: Slots> Board<'a, F> {
     }
 
     pub fn read(&mut self, port: u16) -> u8
-        ensures { Does F.states F.fitting (rules.Call.read port) self.old (rules.Answer.byte_given result) self.new }
+        ensures { Does F.states F.fitting (Call.Read port) self.old (Answer.Byte result) self.new }
     {
         let target = F::target(port);
         let byte = self.ports.read(target);
@@ -58,7 +58,7 @@ impl<'a, F: Slots> Board<'a, F> {
     }
 
     pub fn write(&mut self, port: u16, byte: u8)
-        ensures { Does F.states F.fitting (rules.Call.write port byte) self.old rules.Answer.done self.new }
+        ensures { Does F.states F.fitting (Call.Write port byte) self.old Answer.Done self.new }
     {
         let target = F::target(port);
         self.ports.write(target, byte);
@@ -67,20 +67,50 @@ impl<'a, F: Slots> Board<'a, F> {
     }
 
     pub fn acknowledge(&mut self) -> u8
-        ensures { Does F.states F.fitting rules.Call.acknowledge self.old (rules.Answer.byte_given result) self.new }
+        ensures { Does F.states F.fitting Call.Acknowledge self.old (Answer.Byte result) self.new }
     {
         let vector = self.ports.pair.acknowledge();
         self.ports.hand_over();
         vector
     }
 
+    // Whether the controllers ask for an acknowledge: the master requests.
+    pub fn requests(&self) -> bool
+        ensures { Does F.states F.fitting Call.CheckRequest self.now (Answer.Requested result) self.now }
+    {
+        self.ports.pair.requests()
+    }
+
     pub fn queue(&mut self, write: QueuedWrite) -> Result<(), Refusal>
-        ensures { Does F.states F.fitting (rules.Call.queue write.tick write.port write.byte) self.old (of_queue result) self.new }
+        ensures { Does F.states F.fitting (Call.Queue write) self.old (of_queue result) self.new }
     {
         if write.tick <= self.time || END_OF_TIME < write.tick {
             return Err(Refusal::BadTick);
         }
         self.queue.insert(write)?;
         Ok(())
+    }
+
+    // Makes any of the six calls.
+    pub fn call(&mut self, call: Call) -> Answer
+        ensures { Does F.states F.fitting call self.old result self.new }
+    {
+        match call {
+            Call::Advance(n) => match self.advance(n) {
+                Ok(edges) => Answer::Edges(edges),
+                Err(refusal) => Answer::Refused(refusal),
+            },
+            Call::Read(port) => Answer::Byte(self.read(port)),
+            Call::Write { port, byte } => {
+                self.write(port, byte);
+                Answer::Done
+            }
+            Call::Queue(write) => match self.queue(write) {
+                Ok(()) => Answer::Done,
+                Err(refusal) => Answer::Refused(refusal),
+            },
+            Call::Acknowledge => Answer::Byte(self.acknowledge()),
+            Call::CheckRequest => Answer::Requested(self.requests()),
+        }
     }
 }

@@ -80,6 +80,12 @@ returns-in-Ok-iack c =
     let name = named_at c.args.words.now c.next.new.self _ _ _ (codes "iack") c.next.ensures.steps c.in_ok-name.ensures.ok_part c.in-Ok-iack.ensures.cases.0 c.in-Ok-iack.is-iack in
     rw (name, meaning.named)
 
+pub returns-in-Ok-irq : goal.returns-in-Ok-irq
+unfolding meaning.named
+returns-in-Ok-irq c =
+    let name = named_at c.args.words.now c.next.new.self _ _ _ (codes "irq") c.next.ensures.steps c.in_ok-name.ensures.ok_part c.in-Ok-irq.ensures.cases.0 c.in-Ok-irq.is-irq in
+    rw (name, meaning.named)
+
 pub returns-in-Ok-state : goal.returns-in-Ok-state
 unfolding meaning.named
 returns-in-Ok-state c =
@@ -102,7 +108,7 @@ pub returns-in_default : goal.returns-in_default
 returns-in_default c =
     let d = c.in_default in
     let name = named_at c.args.words.now c.next.new.self _ _ _ d.field-0.now c.next.ensures.steps c.in_ok-name.ensures.ok_part (rw d.is at c.from_utf8.ensures.cases).0 refl in
-    name ∙ unknown d.field-0.now _ (λ e. d.not-outb cc, λ e. d.not-inb cc, λ e. d.not-clock_step cc, λ e. d.not-iack cc, λ e. d.not-queue cc, λ e. d.not-state cc, λ e. d.not-help cc, λ e. d.not-quit cc)
+    name ∙ unknown d.field-0.now _ (λ e. d.not-outb cc, λ e. d.not-inb cc, λ e. d.not-clock_step cc, λ e. d.not-iack cc, λ e. d.not-irq cc, λ e. d.not-queue cc, λ e. d.not-state cc, λ e. d.not-help cc, λ e. d.not-quit cc)
 
 pub returns-in_default-2 : goal.returns-in_default-2
 returns-in_default-2 c =

@@ -1,7 +1,8 @@
 use Rattle.std.proofs.Common.{◌≡◌, ◌<◌, ◌≤◌, min, length, sym, refl, ap, ◌∙◌, ap₂, arith, Ok, Err, Result}
 use Rattle.std.specs.Result.{IsErrAnd}
 use Rattle.agenda.specs.Nodes.{usable, held}
-use Rattle.rules.specs.Board.{precedes, done, refused}
+use Rattle.rules.specs.Board.{precedes}
+use Rattle.rules.specs.declared.calls.Answer.TheVariants.{Done, Refused}
 use Rattle.rules.specs.declared.refusal.Refusal.{Refusal}
 use Rattle.rules.specs.declared.refusal.Refusal.TheVariants.{QueueFull}
 use Rattle.board.specs.Answers.{of_queue}
@@ -10,9 +11,9 @@ use Rattle.board.proofs.Called.{answered, with_bag, pending_len, queue_taken, qu
 use Rattle.board.proofs.board.Board.queue.Goals as goal
 
 -- a full agenda's error is passed on as the queue's
-passed_on : (r : Result (Unit {0}) Refusal) → IsErrAnd r (λ e. e ≡ QueueFull) → of_queue r ≡ refused QueueFull
+passed_on : (r : Result (Unit {0}) Refusal) → IsErrAnd r (λ e. e ≡ QueueFull) → of_queue r ≡ Refused QueueFull
 passed_on (Ok u) h = absurd h
-passed_on (Err e) h = ap refused h
+passed_on (Err e) h = ap Refused h
 
 pub returns-in_err-insert : goal.returns-in_err-insert
 returns-in_err-insert g c =
@@ -25,7 +26,7 @@ returns-in_err-insert g c =
     record {
       same =
           ap₂ (λ a ws. answered a (with_bag before ws (usable c.insert.new.self.nodes.now))) (passed_on c.from_residual.result c.from_residual.ensures.1) (ap₂ (held precedes) found.err.nodes found.err.len)
-          ∙ ap (λ n. answered (refused QueueFull) (with_bag before before.pending n)) (ap (min 4096) found.kept.number)
+          ∙ ap (λ n. answered (Refused QueueFull) (with_bag before before.pending n)) (ap (min 4096) found.kept.number)
           ∙ sym (queue_full g.F.Slots.fitting c.args.write before c.if-write-self.false c.if-write-gt-END_OF_TIME.false full);
       nodes = found.kept;
     }
@@ -40,7 +41,7 @@ returns g c =
     let fits : length before.pending < before.nodes = omega arith in
     record {
       same =
-          ap₂ (λ ws n. answered done (with_bag before ws n)) found.ok (ap (min 4096) found.kept.number)
+          ap₂ (λ ws n. answered Done (with_bag before ws n)) found.ok (ap (min 4096) found.kept.number)
           ∙ sym (queue_taken g.F.Slots.fitting c.args.write before c.if-write-self.false c.if-write-gt-END_OF_TIME.false fits);
       nodes = found.kept;
     }
