@@ -1,5 +1,6 @@
 -- An agenda by what waits in it.
 use Rattle.std.specs.Prelude.{◌≡◌, Bool, List, [], ◌∷◌, length, drop, Some, None, Option}
+use Rattle.std.specs.Borrow.{MutBor}
 use Rattle.agenda.specs.declared.Entry.{Ghosts}
 use Rattle.agenda.specs.declared.agenda.Agenda.{Agenda}
 use Rattle.agenda.specs.Nodes.{usable, held}
@@ -18,8 +19,12 @@ pub record Unchanged {E : Type 0} {entry : Ghosts E} (old new : Agenda E entry) 
   pub nodes : new.nodes.now ≡ old.nodes.now
   pub len : new.len ≡ old.len
 
--- What a call leaves alone: it works in the same lent nodes, of which there are as many, and those past the usable ones hold what they held.
-pub record Kept {E : Type 0} {entry : Ghosts E} (old new : Agenda E entry) : Type 0 where
-  pub lender : new.nodes.ghost_name ≡ old.nodes.ghost_name
-  pub number : length new.nodes.now ≡ length old.nodes.now
-  pub unused : drop (usable old.nodes.now) new.nodes.now ≡ drop (usable old.nodes.now) old.nodes.now
+-- An agenda works in lent nodes: there are as many of them, and those past the usable ones hold what they held when they were lent.
+pub record WorksIn {E : Type 0} {entry : Ghosts E} (lent : MutBor (List E)) (agenda : Agenda E entry) : Type 0 where
+  pub lender : agenda.nodes.ghost_name ≡ lent.ghost_name
+  pub number : length agenda.nodes.now ≡ length lent.now
+  pub unused : drop (usable lent.now) agenda.nodes.now ≡ drop (usable lent.now) lent.now
+
+-- What a call leaves alone: the agenda works in the nodes that it worked in.
+abbrev pub Kept : {E : Type 0} {entry : Ghosts E} → Agenda E entry → Agenda E entry → Type 0
+Kept old new = WorksIn old.nodes new

@@ -1,23 +1,21 @@
 -- Steps that the proofs of the calls share.
-use Rattle.std.proofs.Common.{◌≡◌, ℕ, ◌-◌, ◌<◌, ◌≤◌, min, true, ◌&&◌, ltb, leb, List, length, drop, ap, ◌∙◌, subst, le-ltb, lt-ltb, le-leb, arith}
+use Rattle.std.proofs.Common.{◌≡◌, ℕ, ◌<◌, ◌≤◌, min, true, ◌&&◌, ltb, leb, List, length, drop, ap, ◌∙◌, subst, le-ltb, lt-ltb, le-leb, arith}
 use Rattle.agenda.specs.Nodes.{usable}
 use Rattle.agenda.specs.Waiting.{waiting, Kept}
 use Rattle.agenda.specs.declared.Entry.{Ghosts}
 use Rattle.agenda.specs.declared.agenda.Agenda.{Agenda}
 use Rattle.std.proofs.lemmas.Bool.{and_from}
 use Rattle.rules.specs.Ascending.{insert}
-use Rattle.rules.specs.Board.{Board, Fitting, Answered, do_advance, do_queue, tick_times, with_pending, precedes, end_of_time, most_nodes}
-use Rattle.rules.specs.declared.calls.Answer.{Answer}
-use Rattle.rules.specs.declared.calls.Answer.TheVariants.{Edges, Done, Refused}
+use Rattle.rules.specs.Board.{Board, Fitting, do_queue, with_pending, precedes, end_of_time, most_nodes}
+use Rattle.rules.specs.declared.calls.Answer.TheVariants.{Done, Refused}
 use Rattle.rules.specs.declared.queued.QueuedWrite.{QueuedWrite}
 use Rattle.rules.specs.declared.refusal.Refusal.TheVariants.{QueueFull}
-use Rattle.rules.specs.Device.{horizon}
 use Rattle.agenda.proofs.Heaps.{length_held, sound_within}
 use Rattle.slots.specs.Slots.{States}
 use Rattle.slots.specs.declared.fitted.Slots.{Ghosts as Fittings}
 use Rattle.board.specs.View.{view}
 use Rattle.board.specs.declared.board.Board as B
-use Rattle.board_laws.specs.Jump.{counted}
+use Rattle.board_laws.specs.Advances.{answered}
 
 -- An agenda that is the same works in the same nodes.
 pub kept_same : {E : Type 0} {entry : Ghosts E} (old new : Agenda E entry) → new ≡ old → Kept old new
@@ -48,9 +46,6 @@ pending_len states b = waiting_len b.queue
 pub few_pending : {F S0 S1 S2 S3 : Type 0} {slots : Fittings F} (states : F → States S0 S1 S2 S3) (b : B.Board F slots) → length (view states b).pending ≤ most_nodes
 few_pending states b = let all = pending_len states b in omega arith
 
-abbrev pub answered : {S0 S1 S2 S3 : Type 0} → Answer → Board S0 S1 S2 S3 → Answered S0 S1 S2 S3
-answered a b = record { answer = a; board = b }
-
 -- A board with another bag, and with as many nodes as are usable.
 abbrev pub with_bag : {S0 S1 S2 S3 : Type 0} → Board S0 S1 S2 S3 → List QueuedWrite → ℕ → Board S0 S1 S2 S3
 with_bag b ws n =
@@ -66,8 +61,3 @@ module _ {S0 S1 S2 S3 : Type 0} (f : Fitting S0 S1 S2 S3) (w : QueuedWrite) (b :
 
   pub queue_full : b.nodes ≤ length b.pending → do_queue f w b ≡ answered (Refused QueueFull) b
   queue_full full = rw (in_time, do_queue) (rw (le-ltb (length b.pending) b.nodes full, do_queue))
-
--- What an advance comes to, by its tests.
-pub advance_taken : {S0 S1 S2 S3 : Type 0} (f : Fitting S0 S1 S2 S3) (n : ℕ) (b after : Board S0 S1 S2 S3) (e : ℕ) → n ≤ horizon → n ≤ end_of_time - b.time → tick_times f n (counted f b 0) ≡ counted f after e
-    → do_advance f n b ≡ answered (Edges e) after
-advance_taken f n b after e near within ran = rw (le-ltb horizon n near, do_advance) (rw (le-ltb (end_of_time - b.time) n within, do_advance) (rw ran))

@@ -10,7 +10,7 @@ use Rattle.board.specs.Placing.{placed}
 use Rattle.board.specs.declared.board.handing.Ports.{Ports}
 use Rattle.rules.specs.Board.{Board, Fitting, on_line, lines, carry_out, hand, levels, edges_between, after_write, target, with_pending}
 use Rattle.rules.specs.declared.queued.QueuedWrite.{QueuedWrite}
-use Rattle.board_laws.specs.Jump.{NoneDue, counted, carry_due, write_keeps_bag}
+use Rattle.board_laws.specs.Jump.{NoneDue, counted, carry_due, write_keeps}
 
 -- What was taken is what was seen first.
 pub taken_first : {E : Type 0} (w : E) (old new : List E) (r : Option E) (P : Type 0) → Some w ≡ first_of old → MatchOption r ((old ≡ []) × P) (λ x. old ≡ x ∷ new) → old ≡ w ∷ new
@@ -54,7 +54,7 @@ module _ {S0 S1 S2 S3 : Type 0} (f : Fitting S0 S1 S2 S3) where
       → (e : ℕ) → carry_out f b.pending (counted f b e) ≡ carry_out f a.pending (counted f a (e + more))
   carried_one b a w ws more bag due is-hand is-more e =
       let written = after_write f w.port w.byte (with_pending ws b) in
-      let left : a.pending ≡ ws = ap (λ x. x.pending) is-hand ∙ write_keeps_bag f (target f w.port) w.byte (with_pending ws b) in
+      let left : a.pending ≡ ws = ap (λ x. x.pending) is-hand ∙ (write_keeps f (target f w.port) w.byte (with_pending ws b)).pending in
       ap (λ p. carry_out f p (counted f b e)) bag
       ∙ carry_due f w ws b e due
       ∙ ap (carry_out f ws) (ap₂ (counted f) (sym is-hand) (ap (λ m. e + m) (sym is-more)))

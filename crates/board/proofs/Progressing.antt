@@ -19,7 +19,7 @@ module _ {F S0 S1 S2 S3 : Type 0} {slots : Ghosts F} (states : F → States S0 S
   progress_both {r = r} m n d e a b c handings edges first next most all = record {
     same = λ k. first.same k ∙ next.same (k + d) ∙ ap (λ t. r (counted f (view states c) t)) (omega arith);
     few = omega (arith, first.few, next.few);
-    nodes = kept_both _ _ _ first.nodes next.nodes;
+    nodes = kept_both a.queue b.queue c.queue first.nodes next.nodes;
   }
 
   -- What is left of some ticks ends when they do.

@@ -166,24 +166,20 @@ module _ {A B C D : Type 0} (f : Fitting A B C D) where
         | inr later ↦ rw (carry_none (w ∷ ws) b e later) (settled_pending (w ∷ ws) b s)
       ]
 
-  -- No access touches the bag.
-  pub write_keeps_bag : (t : Target) (v : ℕ) (b : Board A B C D) → (after_write_at f t v b).pending ≡ b.pending
-  write_keeps_bag (master o) v b = refl
-  write_keeps_bag (slave o) v b = refl
-  write_keeps_bag (at_slot_0 o) v b = refl
-  write_keeps_bag (at_slot_1 o) v b = refl
-  write_keeps_bag (at_slot_2 o) v b = refl
-  write_keeps_bag (at_slot_3 o) v b = refl
-  write_keeps_bag open_bus v b = refl
+  -- What no access touches.
+  pub record Apart (b c : Board A B C D) : Type 0 where
+    pub time : c.time ≡ b.time
+    pub handed : c.handed ≡ b.handed
+    pub pending : c.pending ≡ b.pending
 
-  write_keeps_time : (t : Target) (v : ℕ) (b : Board A B C D) → (after_write_at f t v b).time ≡ b.time
-  write_keeps_time (master o) v b = refl
-  write_keeps_time (slave o) v b = refl
-  write_keeps_time (at_slot_0 o) v b = refl
-  write_keeps_time (at_slot_1 o) v b = refl
-  write_keeps_time (at_slot_2 o) v b = refl
-  write_keeps_time (at_slot_3 o) v b = refl
-  write_keeps_time open_bus v b = refl
+  pub write_keeps : (t : Target) (v : ℕ) (b : Board A B C D) → Apart b (after_write_at f t v b)
+  write_keeps (master o) v b = record { time = refl; handed = refl; pending = refl }
+  write_keeps (slave o) v b = record { time = refl; handed = refl; pending = refl }
+  write_keeps (at_slot_0 o) v b = record { time = refl; handed = refl; pending = refl }
+  write_keeps (at_slot_1 o) v b = record { time = refl; handed = refl; pending = refl }
+  write_keeps (at_slot_2 o) v b = record { time = refl; handed = refl; pending = refl }
+  write_keeps (at_slot_3 o) v b = record { time = refl; handed = refl; pending = refl }
+  write_keeps open_bus v b = record { time = refl; handed = refl; pending = refl }
 
   -- Nor does carrying out writes move time.
   carry_keeps_time : (ws : List QueuedWrite) (b : Board A B C D) (e : ℕ) → (carry_out f ws (counted b e)).board.time ≡ b.time
@@ -192,7 +188,7 @@ module _ {A B C D : Type 0} (f : Fitting A B C D) where
   carry_keeps_time (w ∷ ws) b e =
       let written = after_write f w.port w.byte (with_pending ws b) in
       elim (cases_eq w.tick b.time) [
-        | inl due ↦ rw (carry_due w ws b e due) (carry_keeps_time ws (hand f written) (handing f (counted written e)).edges ∙ write_keeps_time (target f w.port) w.byte (with_pending ws b))
+        | inl due ↦ rw (carry_due w ws b e due) (carry_keeps_time ws (hand f written) (handing f (counted written e)).edges ∙ (write_keeps (target f w.port) w.byte (with_pending ws b)).time)
         | inr later ↦ rw (carry_none (w ∷ ws) b e later)
       ]
 

@@ -1,2 +1,4 @@
 pub mod Driving
 pub mod Jump
+pub mod Advances
+pub mod Handings

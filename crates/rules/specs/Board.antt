@@ -9,7 +9,6 @@ use Rattle.rules.specs.declared.calls.Answer.TheVariants.{Edges, Byte, Done, Req
 use Rattle.rules.specs.declared.calls.Call.{Call}
 use Rattle.rules.specs.declared.calls.Call.TheVariants.{Advance, Read, Write, Queue, Acknowledge, CheckRequest}
 use Rattle.rules.specs.declared.queued.QueuedWrite.{QueuedWrite}
-use Rattle.rules.specs.declared.refusal.Refusal.{Refusal}
 use Rattle.rules.specs.declared.refusal.Refusal.TheVariants.{LongAdvance, PastEnd, BadTick, QueueFull}
 
 -- The four kinds of device in the slots, with states A, B, C and D.

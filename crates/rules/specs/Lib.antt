@@ -8,3 +8,4 @@ pub mod Trace
 pub mod Examples
 pub mod TickLaws
 pub mod Flips
+pub mod Mixtures

@@ -1,6 +1,7 @@
 // The calls that take no time.
 ghost use Rattle.std.specs.Prelude.{◌≡◌, length};
 ghost use Rattle.rules.specs.Board as rules;
+ghost use Rattle.rules.specs.Mixtures.{HandsOver};
 ghost use Rattle.i8259.specs.Views.{chip_of};
 ghost use Rattle.board.specs.View.{view, Does};
 ghost use Rattle.board.specs.Answers.{of_queue};
@@ -93,7 +94,10 @@ impl<'a, F: Slots> Board<'a, F> {
 
     // Makes any of the six calls.
     pub fn call(&mut self, call: Call) -> Answer
-        ensures { Does F.states F.fitting call self.old result self.new }
+        ensures same { Does F.states F.fitting call self.old result self.new }
+
+        // The edges of an advance are the changes along the levels that are handed over.
+        ensures handings { HandsOver F.fitting call (view F.states self.old) result (view F.states self.new) }
     {
         match call {
             Call::Advance(n) => match self.advance(n) {

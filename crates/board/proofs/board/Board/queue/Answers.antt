@@ -7,7 +7,8 @@ use Rattle.rules.specs.declared.refusal.Refusal.{Refusal}
 use Rattle.rules.specs.declared.refusal.Refusal.TheVariants.{QueueFull}
 use Rattle.board.specs.Answers.{of_queue}
 use Rattle.board.specs.View.{view}
-use Rattle.board.proofs.Called.{answered, with_bag, pending_len, queue_taken, queue_full}
+use Rattle.board_laws.specs.Advances.{answered}
+use Rattle.board.proofs.Called.{with_bag, pending_len, queue_taken, queue_full}
 use Rattle.board.proofs.board.Board.queue.Goals as goal
 
 -- a full agenda's error is passed on as the queue's

@@ -1,0 +1,4 @@
+pub mod Cutting
+pub mod Decoding
+pub mod Lockstep
+pub mod Exchanging
