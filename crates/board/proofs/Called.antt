@@ -1,7 +1,8 @@
 -- Steps that the proofs of the calls share.
-use Rattle.std.proofs.Common.{◌≡◌, ℕ, ◌<◌, ◌≤◌, min, true, ◌&&◌, ltb, leb, List, length, drop, ap, ◌∙◌, subst, le-ltb, lt-ltb, le-leb, arith}
+use Rattle.std.proofs.Common.{◌≡◌, ℕ, ◌<◌, ◌≤◌, min, true, ◌&&◌, ltb, leb, List, length, drop, refl, ap, ◌∙◌, subst, le-ltb, lt-ltb, le-leb, arith}
+use Rattle.std.specs.Borrow.{MutBor}
 use Rattle.agenda.specs.Nodes.{usable}
-use Rattle.agenda.specs.Waiting.{waiting, Kept}
+use Rattle.agenda.specs.Waiting.{waiting, WorksIn, Kept}
 use Rattle.agenda.specs.declared.Entry.{Ghosts}
 use Rattle.agenda.specs.declared.agenda.Agenda.{Agenda}
 use Rattle.std.proofs.lemmas.Bool.{and_from}
@@ -13,7 +14,7 @@ use Rattle.rules.specs.declared.refusal.Refusal.TheVariants.{QueueFull}
 use Rattle.agenda.proofs.Heaps.{length_held, sound_within}
 use Rattle.slots.specs.Slots.{States}
 use Rattle.slots.specs.declared.fitted.Slots.{Ghosts as Fittings}
-use Rattle.board.specs.View.{view}
+use Rattle.board.specs.View.{view, StandsIn, KeepsNodes}
 use Rattle.board.specs.declared.board.Board as B
 use Rattle.board_laws.specs.Advances.{answered}
 
@@ -33,6 +34,18 @@ kept_both old mid new a b = record {
   unused =
       subst (λ n. drop n new.nodes.now ≡ drop n mid.nodes.now) (ap (λ n. min 4096 n) a.number) b.unused ∙ a.unused;
 }
+
+-- The same of boards.
+module _ {F : Type 0} {slots : Fittings F} where
+  pub keeps_same : (b : B.Board F slots) → KeepsNodes b b
+  keeps_same b = kept_same b.queue b.queue refl
+
+  pub keeps_both : (old mid new : B.Board F slots) → KeepsNodes old mid → KeepsNodes mid new → KeepsNodes old new
+  keeps_both old mid new = kept_both old.queue mid.queue new.queue
+
+  -- A board that works in the nodes that it was made with goes on to stand in them.
+  pub stands_in : (lent : MutBor (List QueuedWrite)) (old new : B.Board F slots) → old.queue.nodes ≡ lent → KeepsNodes old new → StandsIn lent new
+  stands_in lent old new made kept = subst (λ n. WorksIn n new.queue) made kept
 
 -- As many entries wait as nodes are taken, and no more than are usable.
 pub waiting_len : {E : Type 0} {entry : Ghosts E} (q : Agenda E entry) → (length (waiting entry.before q) ≡ q.len) × (q.len ≤ usable q.nodes.now)

@@ -48,14 +48,12 @@ impl FromStr for Parts {
 
 // A line as a call of a board.
 fn read_call(line: &str) -> anyhow::Result<Call> {
-    if line.trim() == "irq" {
-        return Ok(Call::CheckRequest);
-    }
     Ok(match parse(line.as_bytes()) {
         Ok(Command::Outb { port, byte }) => Call::Write { port, byte },
         Ok(Command::Inb(port)) => Call::Read(port),
         Ok(Command::ClockStep(ticks)) => Call::Advance(ticks),
         Ok(Command::Iack) => Call::Acknowledge,
+        Ok(Command::Irq) => Call::CheckRequest,
         Ok(Command::Queue(write)) => Call::Queue(write),
         Ok(Command::State | Command::Help | Command::Quit) => bail!("no call of a board"),
         Err(why) => bail!("{}", why.reason()),

@@ -2,13 +2,13 @@ use Rattle.std.proofs.Common.{◌<◌, ◌≤◌, length, refl, sym, ◌∙◌, 
 use Rattle.rules.specs.declared.calls.Answer.TheVariants.{Edges}
 use Rattle.rules.specs.declared.calls.Call.TheVariants.{Advance}
 use Rattle.board.specs.View.{view}
-use Rattle.board.proofs.Called.{kept_same, kept_both}
+use Rattle.board.proofs.Called.{keeps_same, keeps_both}
 use Rattle.mixtures.specs.declared.steps.Step.{Step}
 use Rattle.mixtures.proofs.Stepping.{calls_set, stepped, finished}
 use Rattle.mixtures.proofs.steps.run.Goals as goal
 
 pub loop-step-init : goal.loop-step-init
-loop-step-init g c = record { same = refl; calls = refl; kept = kept_same c.args.board.now.queue c.args.board.now.queue refl }
+loop-step-init g c = record { same = refl; calls = refl; kept = keeps_same c.args.board.now }
 
 pub loop-step-preserved : goal.loop-step-preserved
 loop-step-preserved g c =
@@ -19,7 +19,7 @@ loop-step-preserved g c =
           c.loop-step.invariant.same
           ∙ stepped g.F.Slots.fitting c.loop-step.steps c.loop-step.step-index d c.call-step.result (view g.F.Slots.states c.loop-step.board) (view g.F.Slots.states c.call-step.new.self) h c.call-step.ensures.same.same;
       calls = calls_set c.loop-step.steps c.loop-step.step-index d c.call-step.result h ∙ c.loop-step.invariant.calls;
-      kept = kept_both c.args.board.now.queue c.loop-step.board.queue c.call-step.new.self.queue c.loop-step.invariant.kept c.call-step.ensures.same.nodes;
+      kept = keeps_both c.args.board.now c.loop-step.board c.call-step.new.self c.loop-step.invariant.kept c.call-step.ensures.same.nodes;
     }
 
 pub returns : goal.returns
