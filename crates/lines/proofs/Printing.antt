@@ -72,6 +72,19 @@ printed_from {o} {o'} {p} {xs} e h = subst (λ (z : Output). Printed z xs p) e h
 pub printed_to : {o p p' : Output} {xs : List ℕ} → p ≡ p' → Printed o xs p → Printed o xs p'
 printed_to {o} {p} {p'} {xs} e h = subst (λ (z : Output). Printed o xs z) e h
 
+-- one byte, by `set`
+pub with_byte : (bs : List ℕ) (p x : ℕ) → p < length bs → set bs p x ≡ with_line bs p (x ∷ [])
+with_byte bs p x h = sym (with_more bs p x [] h ∙ with_none (set bs p x) (p + 1))
+
+pub place_byte : (bs : List ℕ) (p x : ℕ) → p < length bs → p + 1 ≡ place_after bs p (x ∷ [])
+place_byte bs p x h = omega (arith, place_after_is bs p (x ∷ []))
+
+pub full_byte : (bs : List ℕ) (p x : ℕ) → length bs ≤ p → bs ≡ with_line bs p (x ∷ [])
+full_byte bs p x h = sym (full bs p (x ∷ []) h)
+
+pub full_place : (bs : List ℕ) (p x : ℕ) → length bs ≤ p → p ≡ place_after bs p (x ∷ [])
+full_place bs p x h = omega (arith, place_after_is bs p (x ∷ []))
+
 -- the digits of a port, byte by byte
 pub port_bytes : (p : ℕ) {bs : List ℕ} → bs ≡ p / 256 % 256 ∷ (p % 256 ∷ []) → hex_byte (get_or bs 0 0) ++ hex_byte (get_or bs 1 0) ≡ hex_port p
 port_bytes p e =

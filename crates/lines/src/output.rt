@@ -87,10 +87,14 @@ impl<'a> Output<'a> {
         self.place = end;
     }
 
+    // Numbers are printed byte by byte, so a byte is stored by itself: copying a text of one byte is a call to copy memory.
     fn byte(&mut self, byte: u8)
         ensures { Printed self.old (byte ∷ []) self.new }
     {
-        self.text(&[byte]);
+        if self.place < self.bytes.len() {
+            self.bytes[self.place] = byte;
+            self.place += 1;
+        }
     }
 
     // The digits in front of the last one are printed first.
@@ -106,7 +110,8 @@ impl<'a> Output<'a> {
     fn hex_byte(&mut self, byte: u8)
         ensures { Printed self.old (rules.hex_byte byte) self.new }
     {
-        self.text(&[hex_digit(byte / 16), hex_digit(byte)]);
+        self.byte(hex_digit(byte / 16));
+        self.byte(hex_digit(byte));
     }
 
     fn hex_port(&mut self, port: u16)
@@ -121,7 +126,8 @@ impl<'a> Output<'a> {
     fn mark(&mut self, mark: u8)
         ensures { Printed self.old (mark ∷ rules.space ∷ []) self.new }
     {
-        self.text(&[mark, b' ']);
+        self.byte(mark);
+        self.byte(b' ');
     }
 
     fn access(&mut self, mark: u8, port: u16, byte: u8)
