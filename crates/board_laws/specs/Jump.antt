@@ -149,6 +149,11 @@ module _ {A B C D : Type 0} (f : Fitting A B C D) where
       ∙ ap (tick f) (jump n b e s q i)
       ∙ ap (λ d. carry_out f b.pending (handing f (counted d e))) (ticked_later n b)
 
+  -- A single tick asks nothing of the board.
+  pub arrive_next : (b : Board A B C D) (e : ℕ) → tick_times f 1 (counted b e) ≡ carry_out f b.pending (handing f (counted (later 1 b) e))
+  unfolding tick tick_times ticks
+  arrive_next b e = refl
+
   -- After a handing a board is settled, and so it is after the writes of a tick, each with its own handing.
   pub settled_hand : (b : Board A B C D) → Settled (hand f b)
   settled_hand b = record { handed = refl; driven = drive_lines_again (on_line lines (levels f b)) b.pair }
@@ -196,6 +201,12 @@ module _ {A B C D : Type 0} (f : Fitting A B C D) where
   abbrev pub arrival : ℕ → Board A B C D → ℕ → Counted A B C D
   arrival k b e = carry_out f b.pending (handing f (counted (later k b) e))
 
+  pub arrival_time : (k : ℕ) (b : Board A B C D) (e : ℕ) → (arrival k b e).board.time ≡ b.time + k
+  arrival_time k b e = carry_keeps_time b.pending (hand f (later k b)) (handing f (counted (later k b) e)).edges
+
+  pub arrival_settled : (k : ℕ) (b : Board A B C D) (e : ℕ) → Settled (arrival k b e).board
+  arrival_settled k b e = settled_carried b.pending (hand f (later k b)) (handing f (counted (later k b) e)).edges (settled_hand (later k b))
+
   -- Where no write is due there, it is one handing.
   pub arrival_none : (k : ℕ) (b : Board A B C D) (e : ℕ) → NoneDue (b.time + k) b.pending → arrival k b e ≡ handing f (counted (later k b) e)
   arrival_none k b e none = carry_none b.pending (hand f (later k b)) (handing f (counted (later k b) e)).edges none
@@ -222,6 +233,10 @@ module _ {A B C D : Type 0} (f : Fitting A B C D) where
       let whole : k - 1 + 1 ≡ k = omega arith in
       split_ticks k n (counted b e) within
       ∙ ap (tick_times f (n - k)) (subst (λ m. tick_times f m (counted b e) ≡ arrival m b e) whole (arrive (k - 1) b e s q i))
+
+  -- Of n ticks, the first by itself, which asks nothing of the board.
+  pub tick_first : (n : ℕ) (b : Board A B C D) (e : ℕ) → 1 ≤ n → tick_times f n (counted b e) ≡ tick_times f (n - 1) (arrival 1 b e)
+  tick_first n b e some = split_ticks 1 n (counted b e) some ∙ ap (tick_times f (n - 1)) (arrive_next b e)
 
   pub tick_none : (n : ℕ) (c : Counted A B C D) → n ≡ 0 → tick_times f n c ≡ c
   unfolding tick_times

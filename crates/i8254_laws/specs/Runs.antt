@@ -115,6 +115,23 @@ unfolding ticks
 free_run zero ch h = refl
 free_run (suc n) ch h = ap (ticks channel n) (free_tick ch h) ∙ free_run n (with_counter ch (tick_counter ch.counter)) (still_free ch h)
 
+pub held_announces : (ch : Channel) → held ch ≡ true → Announces channel ch None
+held_announces ch h j near = ap channel.level (held_run j ch h)
+
+-- Two machines whose levels are the same after every number of ticks announce the same.
+announces_alike : {S R : Type 0} (m : Meaning S) (s : S) (r : Meaning R) (t : R) → ((j : ℕ) → level_after m j s ≡ level_after r j t) → (o : Option ℕ) → Announces r t o → Announces m s o
+unfolding ticks
+announces_alike m s r t alike (Some k) a = (a.0, a.1, (λ j before. alike j ∙ a.2 j before ∙ sym (alike 0)), λ e. a.3 (sym (alike k) ∙ e ∙ alike 0))
+announces_alike m s r t alike None a = λ j near. alike j ∙ a j near ∙ sym (alike 0)
+
+pub free_announces : (ch : Channel) (r : Option ℕ) → held ch ≡ false → Announces counting ch.counter r → Announces channel ch r
+free_announces ch r h a = announces_alike channel ch counting ch.counter (λ j. ap channel.level (free_run j ch h)) r a
+
+-- The timer announces what its channel 0 does.
+pub timer_announces : (t : Timer) (r : Option ℕ) → Announces channel t.channel_0 r → Announces timer t r
+timer_announces t r a = announces_alike timer t channel t.channel_0 (λ j. ap timer.level (ticks_timer j t)) r a
+
+-- What is foreseen of a channel, which is more.
 pub held_foresees : (ch : Channel) → held ch ≡ true → Foresees channel ch None
 held_foresees ch h j = ap channel.level (held_run j ch h)
 
