@@ -11,7 +11,7 @@ pub const NO_BYTE: u8 = 0xFF;
 
 // A kind of device. Its meaning is a state machine that is stepped one tick at a time; the functions jump.
 pub trait Device {
-    // How many ports every device of this kind has, 1 to 8.
+    // How many ports every device of this kind has, 1 to 8. `ports` says it as a call.
     const WIDTH: u16;
 
     ghost WIDTH: { ℕ };
@@ -21,6 +21,13 @@ pub trait Device {
     ghost meaning: { Meaning State };
 
     ghost state: { Self → State };
+
+    // How many ports there are, tied to the meaning by a contract: `WIDTH`, whatever the device.
+    fn ports() -> u16
+        ensures { result ≡ meaning.width }
+    {
+        Self::WIDTH
+    }
 
     // n ticks pass at once; an n above 2^32 counts as 2^32.
     fn skip(&mut self, n: u64)

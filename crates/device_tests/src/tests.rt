@@ -92,6 +92,7 @@ fn empty(rt: HostRuntime) {
     d.skip(5);
     assert_eq!(rt; seen(&mut d), (false, None, 0xFF));
     assert_eq!(rt; <Divider<Empty> as Device>::WIDTH, 1);
+    assert_eq!(rt; <Divider<Empty> as Device>::ports(), 1);
 }
 
 // Level and announcement alone: these look at a divider without giving its inner device the ticks that it lacks.

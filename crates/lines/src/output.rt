@@ -160,15 +160,15 @@ impl<'a> Output<'a> {
     }
 
     // `! number layer place`
-    fn refused(&mut self, refused: Refused)
-        ensures { Printed self.old (rules.refusal_line refused.refusal refused.place) self.new }
+    pub fn refused(&mut self, refusal: Refusal, place: usize)
+        ensures { Printed self.old (rules.refusal_line refusal place) self.new }
     {
         self.mark(b'!');
-        self.decimal(u64::from(refused.refusal.number()));
+        self.decimal(u64::from(refusal.number()));
         self.byte(b' ');
-        self.byte(refused.refusal.layer().letter());
+        self.byte(refusal.layer().letter());
         self.byte(b' ');
-        self.decimal(refused.place as u64);
+        self.decimal(place as u64);
         self.byte(b'\n');
     }
 
@@ -189,7 +189,7 @@ impl<'a> Output<'a> {
     }
 
     // `. records`
-    fn records(&mut self, count: usize)
+    pub fn records(&mut self, count: usize)
         ensures { Printed self.old (rules.count_line count) self.new }
     {
         self.counted(b'.', count as u64);
@@ -206,7 +206,7 @@ impl<'a> Output<'a> {
             Line::Acknowledged(vector) => self.acknowledged(vector),
             Line::Queued(tick) => self.counted(b'Q', tick),
             Line::Note(text) => self.note(text),
-            Line::Refused(refused) => self.refused(refused),
+            Line::Refused(Refused { refusal, place }) => self.refused(refusal, place),
             Line::Records(count) => self.records(count),
         }
     }

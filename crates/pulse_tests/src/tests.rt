@@ -24,6 +24,7 @@ fn power_on(rt: HostRuntime) {
     assert_eq!(rt; seen(&mut p), (0, 0, 0, None));
     assert_eq!(rt; p.level(), false);
     assert_eq!(rt; <Pulse as Device>::WIDTH, 4);
+    assert_eq!(rt; <Pulse as Device>::ports(), 4);
 }
 
 #[test]
